@@ -1,0 +1,88 @@
+-- The public calls: what each answers, and the table, head and record list that it leaves.
+use Prim.Native.Nat.{ℕ}
+use mathlib.Core.List.{List, [], _++_, reverse}
+use mathlib.Core.Bool.{cond}
+use lib.ListN.{length, drop}
+use Rattle.rules.specs.declared.Posting.{Posting}
+use Rattle.rules.specs.declared.Head.{Head}
+use Rattle.rules.specs.declared.Answer.{Answer}
+use Rattle.rules.specs.declared.Verdict.{Verdict}
+use Rattle.rules.specs.Postings.{counted}
+use Rattle.rules.specs.Table.{capacity, postings, laidOut}
+use Rattle.rules.specs.Orders.{Numbered, destinations, sources, numbersOf, recorded}
+use Rattle.rules.specs.Answers.{isAccepted, poisons, settled}
+use Rattle.rules.specs.Checks.{Call, changesOf, prepareChecks, rollbackChecks, removalChecks, publishChecks, countChecks}
+use Rattle.rules.specs.Publication.{undoing, Stage, preparing, removing, rolledBack, thenSources}
+
+-- all that is seen after a call
+pub record Outcome : Type 0 where
+  pub answer : Answer
+  pub head : Head
+  pub table : List ℕ
+  pub recordList : List ℕ
+
+-- a refusal changes nothing
+abbrev pub asBefore : Head → List ℕ → List ℕ → Answer → Outcome
+asBefore head table list a = record { answer = a; head = head; table = table; recordList = list }
+
+abbrev pub decided : Verdict → (Answer → Outcome) → Outcome → Outcome
+decided Verdict.Passes refusal work = work
+decided (Verdict.Refused a) refusal work = refusal a
+
+-- the head beside these postings; 12 and 13 set its poison flag
+abbrev pub headAfter : Head → Answer → List Posting → Head
+headAfter head a ps = record { bindings = head .bindings; used = length ps; poisoned = cond (poisons a) 1 (head .poisoned) }
+
+-- a stage's postings shown in the lent table, with the head and the record list that go with them
+abbrev pub shown : Head → List ℕ → List ℕ → Stage → Outcome
+shown head table list s =
+    record {
+      answer = s .answer;
+      head = headAfter head (s .answer) (s .postings);
+      table = laidOut (length table) (s .postings);
+      recordList = list;
+    }
+
+-- the record in the first places of its list; places past it stay
+abbrev pub written : List ℕ → List ℕ → List ℕ
+written ns list = ns ++ drop (length ns) list
+
+-- the record is written only after the last insertion
+abbrev pub recordAfter : Stage → List Numbered → List ℕ → List ℕ
+recordAfter prepared ds list = cond (isAccepted (prepared .answer)) (written (numbersOf ds) list) list
+
+module _ (head : Head) (table : List ℕ) (c : Call) where
+  -- the prepare part of prepare and publish
+  abbrev pub prepared : Stage
+  prepared =
+      preparing (capacity table) (c .strip) (destinations (changesOf c)) [] 0 (postings (head .used) table)
+
+  unfoldable pub prepareOf : Outcome
+  prepareOf =
+      decided (prepareChecks head table c) (asBefore head table (c .recordList))
+      (shown head table (recordAfter prepared (destinations (changesOf c)) (c .recordList)) prepared)
+
+  unfoldable pub rollbackOf : Outcome
+  rollbackOf =
+      decided (rollbackChecks head table c) (asBefore head table (c .recordList))
+      (shown head table (c .recordList)
+      (rolledBack
+      (undoing (c .strip) (reverse (recorded (changesOf c) (c .recordList))) Verdict.Passes 0
+      (postings (head .used) table))))
+
+  unfoldable pub removalOf : Outcome
+  removalOf =
+      decided (removalChecks head table c) (asBefore head table (c .recordList))
+      (shown head table (c .recordList)
+      (removing (c .strip) (Answer.Accepted 0) (sources (changesOf c)) 0 (postings (head .used) table)))
+
+  unfoldable pub publishOf : Outcome
+  publishOf =
+      decided (publishChecks head table c) (asBefore head table (c .recordList))
+      (shown head table (recordAfter prepared (destinations (changesOf c)) (c .recordList))
+      (thenSources (c .strip) (sources (changesOf c)) prepared))
+
+-- how many postings a binding and key have; an absent key has 0
+unfoldable pub countOf : Head → List ℕ → ℕ → ℕ → Answer
+countOf head table binding key =
+    settled (countChecks head table binding) (Answer.Accepted (counted binding key (postings (head .used) table)))

@@ -1,0 +1,177 @@
+-- The checks 1 to 9 and 14, each over its whole list, and the order in which a call runs them. The first that applies is given.
+use Prim.Native.Nat.{ℕ, _+_}
+use mathlib.Core.List.{List, [], _∷_, _++_}
+use mathlib.Core.Bool.{Bool, true, false, cond, not, _&&_, _||_}
+use lib.ListN.{length, getD}
+use lib.Dec.{eqb, ltb, leb}
+use Rattle.rules.specs.declared.Posting.{Posting}
+use Rattle.rules.specs.declared.Key.{Key}
+use Rattle.rules.specs.declared.Change.{Change}
+use Rattle.rules.specs.declared.Guard.{Guard}
+use Rattle.rules.specs.declared.Head.{Head}
+use Rattle.rules.specs.declared.Answer.{Answer}
+use Rattle.rules.specs.declared.Verdict.{Verdict}
+use Rattle.rules.specs.Postings.{same, present}
+use Rattle.rules.specs.Table.{postings, wellFormed}
+use Rattle.rules.specs.Orders.{changes, guards, held, properLists, properStrip, Numbered, destinationOf, destinations, sources, postingsOf, noChange}
+
+-- what a call lends beside table and head; the record list is written by prepare and publish and read by rollback
+pub record Call : Type 0 where
+  pub changeList : List ℕ
+  pub guardList : List ℕ
+  pub strip : List ℕ
+  pub recordList : List ℕ
+
+abbrev pub changesOf : Call → List Change
+changesOf c = changes (c .changeList)
+
+-- a test that must hold, and the answer where it doesn't
+abbrev pub must : Bool → Answer → Verdict
+must true a = Verdict.Passes
+must false a = Verdict.Refused a
+
+-- the first verdict, unless it passes; then the second
+abbrev pub orElse : Verdict → Verdict → Verdict
+orElse Verdict.Passes v = v
+orElse (Verdict.Refused a) v = Verdict.Refused a
+
+unfoldable pub firstRefusal : List Verdict → Verdict
+firstRefusal [] = Verdict.Passes
+firstRefusal (v ∷ vs) = orElse v (firstRefusal vs)
+
+-- 1
+unfoldable pub tableCheck : Head → List ℕ → Verdict
+tableCheck head table = must (wellFormed head table) Answer.Table
+
+-- 2
+unfoldable pub poisonCheck : Head → Verdict
+poisonCheck head = must (eqb (head .poisoned) 0) Answer.Poisoned
+
+-- 3
+unfoldable pub listCheck : Call → Verdict
+listCheck c = must (properLists (c .changeList) (c .guardList)) Answer.List
+
+-- 4
+unfoldable pub stripCheck : Call → Verdict
+stripCheck c = must (properStrip (c .strip)) Answer.Strip
+
+-- 5: the record list has a place for each change
+unfoldable pub roomCheck : Call → Verdict
+roomCheck c = must (leb (length (changesOf c)) (length (c .recordList))) Answer.Room
+
+-- a named key is held; none need not be
+abbrev pub heldKey : ℕ → Key → List Guard → Bool
+heldKey binding Key.Missing gs = true
+heldKey binding (Key.Named key) gs = held binding key gs
+
+-- its binding is below the count, and a named before and after are held
+unfoldable pub guarded : ℕ → List Guard → Change → Bool
+guarded bindings gs c =
+    ltb (c .binding) bindings && heldKey (c .binding) (c .before) gs && heldKey (c .binding) (c .after) gs
+
+-- 6: the first change, numbered from i on, that is not guarded
+unfoldable pub guardedFrom : ℕ → ℕ → List Guard → List Change → Verdict
+guardedFrom i bindings gs [] = Verdict.Passes
+guardedFrom i bindings gs (c ∷ cs) = orElse (must (guarded bindings gs c) (Answer.Guard i)) (guardedFrom (i + 1) bindings gs cs)
+
+unfoldable pub guardCheck : Head → Call → Verdict
+guardCheck head c = guardedFrom 0 (head .bindings) (guards (c .guardList)) (changesOf c)
+
+-- a number of a record means a destination: it is below the change count and its after is not none
+abbrev pub isNamed : Key → Bool
+isNamed Key.Missing = false
+isNamed (Key.Named key) = true
+
+unfoldable pub recordable : List Change → ℕ → Bool
+recordable cs n = ltb n (length cs) && isNamed (destinationOf (getD cs n noChange))
+
+-- the number stands in the list
+unfoldable pub among : ℕ → List ℕ → Bool
+among n [] = false
+among n (m ∷ ms) = eqb n m || among n ms
+
+-- 14: the first place that means no destination, or whose number is already at an earlier place
+unfoldable pub recordFrom : ℕ → List Change → List ℕ → List ℕ → Verdict
+recordFrom place cs earlier [] = Verdict.Passes
+recordFrom place cs earlier (n ∷ ns) =
+    orElse (must (recordable cs n && not (among n earlier)) (Answer.Record place)) (recordFrom (place + 1) cs (n ∷ earlier) ns)
+
+unfoldable pub recordCheck : Call → Verdict
+recordCheck c = recordFrom 0 (changesOf c) [] (c .recordList)
+
+-- the first of the earlier destinations that equals d
+unfoldable pub equalTo : Numbered → List Numbered → Verdict
+equalTo d [] = Verdict.Passes
+equalTo d (e ∷ es) = orElse (must (not (same (e .posting) (d .posting))) (Answer.Twice (e .number) (d .number))) (equalTo d es)
+
+-- 7: each destination in turn (j) beside those before it, from the first on (i)
+unfoldable pub twiceFrom : List Numbered → List Numbered → Verdict
+twiceFrom earlier [] = Verdict.Passes
+twiceFrom earlier (d ∷ ds) = orElse (equalTo d earlier) (twiceFrom (earlier ++ d ∷ []) ds)
+
+unfoldable pub twiceCheck : Call → Verdict
+twiceCheck c = twiceFrom [] (destinations (changesOf c))
+
+-- the first of the numbered postings that has the fault
+unfoldable pub noneWith : (Posting → Bool) → (ℕ → Answer) → List Numbered → Verdict
+noneWith fault answer [] = Verdict.Passes
+noneWith fault answer (d ∷ ds) = orElse (must (not (fault (d .posting))) (answer (d .number))) (noneWith fault answer ds)
+
+-- 8: no destination stands in the table
+unfoldable pub presentCheck : Head → List ℕ → Call → Verdict
+presentCheck head table c =
+    noneWith (λ p. present p (postings (head .used) table)) Answer.Present (destinations (changesOf c))
+
+-- 9: no source equals a destination of the list, its own change's or another's
+unfoldable pub overlapCheck : Call → Verdict
+overlapCheck c =
+    noneWith (λ p. present p (postingsOf (destinations (changesOf c)))) Answer.Overlap (sources (changesOf c))
+
+unfoldable pub prepareChecks : Head → List ℕ → Call → Verdict
+prepareChecks head table c =
+    firstRefusal
+    (tableCheck head table
+    ∷ poisonCheck head
+    ∷ listCheck c
+    ∷ stripCheck c
+    ∷ roomCheck c
+    ∷ guardCheck head c
+    ∷ twiceCheck c
+    ∷ presentCheck head table c
+    ∷ [])
+
+unfoldable pub rollbackChecks : Head → List ℕ → Call → Verdict
+rollbackChecks head table c =
+    firstRefusal
+    (tableCheck head table
+    ∷ poisonCheck head
+    ∷ listCheck c
+    ∷ stripCheck c
+    ∷ guardCheck head c
+    ∷ recordCheck c
+    ∷ [])
+
+unfoldable pub removalChecks : Head → List ℕ → Call → Verdict
+removalChecks head table c =
+    firstRefusal
+    (tableCheck head table ∷ poisonCheck head ∷ listCheck c ∷ stripCheck c ∷ guardCheck head c ∷ [])
+
+unfoldable pub publishChecks : Head → List ℕ → Call → Verdict
+publishChecks head table c =
+    firstRefusal
+    (tableCheck head table
+    ∷ poisonCheck head
+    ∷ listCheck c
+    ∷ stripCheck c
+    ∷ roomCheck c
+    ∷ guardCheck head c
+    ∷ twiceCheck c
+    ∷ presentCheck head table c
+    ∷ overlapCheck c
+    ∷ [])
+
+-- 6 of a count asks its binding alone, and names 0
+unfoldable pub countChecks : Head → List ℕ → ℕ → Verdict
+countChecks head table binding =
+    firstRefusal
+    (tableCheck head table ∷ poisonCheck head ∷ must (ltb binding (head .bindings)) (Answer.Guard 0) ∷ [])

@@ -1,0 +1,11 @@
+pub mod Limits
+pub mod Postings
+pub mod Table
+pub mod Orders
+pub mod Storage
+pub mod Answers
+pub mod Checks
+pub mod Publication
+pub mod Calls
+pub mod Trial
+pub mod Letters

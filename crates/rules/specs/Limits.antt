@@ -1,0 +1,18 @@
+-- The limits of lent lists and numbers, each one number. A list at its limit is accepted.
+use Prim.Native.Nat.{ℕ}
+
+-- numbers of a table, three to a posting
+abbrev pub mostNumbers : ℕ
+mostNumbers = 12288
+
+abbrev pub mostBindings : ℕ
+mostBindings = 64
+
+abbrev pub mostChanges : ℕ
+mostChanges = 256
+
+abbrev pub mostGuards : ℕ
+mostGuards = 1024
+
+abbrev pub mostBytes : ℕ
+mostBytes = 1024

@@ -1,0 +1,116 @@
+-- What an order lends: a change list, guards and a strip; and the destinations and sources that the changes name.
+use Prim.Native.Nat.{ℕ, _+_, _%_}
+use mathlib.Core.List.{List, [], _∷_, map}
+use mathlib.Core.Bool.{Bool, true, false, cond, _&&_, _||_}
+use lib.ListN.{length, getD}
+use lib.Dec.{eqb, leb}
+use Rattle.rules.specs.declared.Posting.{Posting}
+use Rattle.rules.specs.declared.Key.{Key}
+use Rattle.rules.specs.declared.Change.{Change}
+use Rattle.rules.specs.declared.Guard.{Guard}
+use Rattle.rules.specs.Limits.{mostChanges, mostGuards, mostBytes}
+use Rattle.rules.specs.Postings.{every}
+
+-- a flag and a key: with flag 0 there is none
+abbrev pub keyOf : ℕ → ℕ → Key
+keyOf flag key = cond (eqb flag 0) Key.Missing (Key.Named key)
+
+-- six numbers each: binding, row, before flag, before key, after flag, after key
+unfoldable pub changes : List ℕ → List Change
+changes [] = []
+changes (binding ∷ []) = []
+changes (binding ∷ row ∷ []) = []
+changes (binding ∷ row ∷ flag ∷ []) = []
+changes (binding ∷ row ∷ flag ∷ key ∷ []) = []
+changes (binding ∷ row ∷ flag ∷ key ∷ flag′ ∷ []) = []
+changes (binding ∷ row ∷ flag ∷ key ∷ flag′ ∷ key′ ∷ rest) =
+    record { binding = binding; row = row; before = keyOf flag key; after = keyOf flag′ key′ } ∷ changes rest
+
+-- a flag is 0 or 1; with flag 0 the key is 0
+abbrev pub properKey : ℕ → ℕ → Bool
+properKey flag key = cond (eqb flag 0) (eqb key 0) (eqb flag 1)
+
+-- otherwise, or with a length no multiple of 6, the list is ill formed
+unfoldable pub properChanges : List ℕ → Bool
+properChanges [] = true
+properChanges (binding ∷ []) = false
+properChanges (binding ∷ row ∷ []) = false
+properChanges (binding ∷ row ∷ flag ∷ []) = false
+properChanges (binding ∷ row ∷ flag ∷ key ∷ []) = false
+properChanges (binding ∷ row ∷ flag ∷ key ∷ flag′ ∷ []) = false
+properChanges (binding ∷ row ∷ flag ∷ key ∷ flag′ ∷ key′ ∷ rest) =
+    properKey flag key && properKey flag′ key′ && properChanges rest
+
+-- two numbers to a guard: binding, key
+unfoldable pub guards : List ℕ → List Guard
+guards [] = []
+guards (binding ∷ []) = []
+guards (binding ∷ key ∷ rest) = record { binding = binding; key = key } ∷ guards rest
+
+-- well formed and at most 256 changes; whole pairs and at most 1,024 guards
+unfoldable pub properLists : List ℕ → List ℕ → Bool
+properLists cs gs =
+    properChanges cs && leb (length (changes cs)) mostChanges && eqb (length gs % 2) 0 && leb (length (guards gs)) mostGuards
+
+-- the pair (binding, key) is among the guards
+unfoldable pub held : ℕ → ℕ → List Guard → Bool
+held binding key [] = false
+held binding key (g ∷ gs) = (eqb binding (g .binding) && eqb key (g .key)) || held binding key gs
+
+-- at most 1,024 bytes, none above 2
+unfoldable pub properStrip : List ℕ → Bool
+properStrip strip = leb (length strip) mostBytes && every (λ byte. leb byte 2) strip
+
+-- the next byte where so many are read; past the end reads 0
+abbrev pub byteAt : List ℕ → ℕ → ℕ
+byteAt strip read = getD strip read 0
+
+-- where a change brings its row, and whence it takes it
+abbrev pub destinationOf : Change → Key
+destinationOf c = c .after
+
+abbrev pub sourceOf : Change → Key
+sourceOf c = c .before
+
+-- a posting with the number of the change that names it
+pub record Numbered : Type 0 where
+  pub number : ℕ
+  pub posting : Posting
+
+-- the change's posting under a key, in front of others; a change with no key is passed over
+abbrev pub named : ℕ → Change → Key → List Numbered → List Numbered
+named i c Key.Missing others = others
+named i c (Key.Named key) others =
+    record { number = i; posting = record { binding = c .binding; key = key; row = c .row } } ∷ others
+
+-- destinations and sources of the changes, which are numbered from i on
+unfoldable pub destinationsFrom : ℕ → List Change → List Numbered
+destinationsFrom i [] = []
+destinationsFrom i (c ∷ cs) = named i c (destinationOf c) (destinationsFrom (i + 1) cs)
+
+unfoldable pub sourcesFrom : ℕ → List Change → List Numbered
+sourcesFrom i [] = []
+sourcesFrom i (c ∷ cs) = named i c (sourceOf c) (sourcesFrom (i + 1) cs)
+
+-- the first change is number 0
+abbrev pub destinations : List Change → List Numbered
+destinations cs = destinationsFrom 0 cs
+
+abbrev pub sources : List Change → List Numbered
+sources cs = sourcesFrom 0 cs
+
+abbrev pub postingsOf : List Numbered → List Posting
+postingsOf ds = map (λ (d : Numbered). d .posting) ds
+
+-- a record of destinations: their change numbers
+abbrev pub numbersOf : List Numbered → List ℕ
+numbersOf ds = map (λ (d : Numbered). d .number) ds
+
+-- a change that is not there: it names nothing
+abbrev pub noChange : Change
+noChange = record { binding = 0; row = 0; before = Key.Missing; after = Key.Missing }
+
+-- the destinations that a record's numbers mean, in the record's order
+unfoldable pub recorded : List Change → List ℕ → List Numbered
+recorded cs [] = []
+recorded cs (n ∷ ns) = named n (getD cs n noChange) (destinationOf (getD cs n noChange)) (recorded cs ns)
