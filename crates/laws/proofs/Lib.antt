@@ -1,0 +1,5 @@
+pub mod Tests
+pub mod Ranks
+pub mod Lists
+pub mod Sorted
+pub mod Flat
