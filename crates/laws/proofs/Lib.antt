@@ -3,3 +3,7 @@ pub mod Ranks
 pub mod Lists
 pub mod Sorted
 pub mod Flat
+pub mod Steps
+pub mod Undo
+pub mod Prepare
+pub mod Remove

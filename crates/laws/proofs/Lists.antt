@@ -21,6 +21,10 @@ or-swap true false c = refl
 or-swap false true c = refl
 or-swap false false c = refl
 
+apart : (b : Bool) → (b ≡ true → ⊥) → b ≡ false
+apart true f = absurd (f refl)
+apart false f = refl
+
 -- what stands in a list after an insertion
 pub present-inserted : (p q : Posting) (l : List Posting) → present p (inserted q l) ≡ (same p q || present p l)
 unfolding present inserted
@@ -59,10 +63,10 @@ present-removed p q (x ∷ xs) = go (same q x) refl (present-removed p q xs)
         (and-or (same p x) (present p xs) (same p q) λ h.
         apart (same p q) λ k.
         clash (same q x) (rw (sym (same-equal p q k) ∙ same-equal p x h) (same-self x)) e)
-      where
-        apart : (b : Bool) → (b ≡ true → ⊥) → b ≡ false
-        apart true f = absurd (f refl)
-        apart false f = refl
+
+-- what stands in a list differs from what doesn't
+pub differs : (p q : Posting) (l : List Posting) → present p l ≡ true → present q l ≡ false → same p q ≡ false
+differs p q l h k = apart (same p q) λ e. clash (present q l) (rw (same-equal p q e) at h) k
 
 pub removed-absent : (p : Posting) (l : List Posting) → present p l ≡ false → removed p l ≡ l
 unfolding present removed

@@ -1,0 +1,40 @@
+-- The words in which the laws speak of a call, without its steps: what destinations and sources come to, the bytes that are
+-- read, and what a change of a set may take away.
+use Prim.Native.Nat.{ℕ, _<_, _≤_}
+use mathlib.Core.Path.{_≡_}
+use mathlib.Core.List.{List, [], _∷_}
+use mathlib.Core.Bool.{true, false}
+use lib.ListN.{getD}
+use Rattle.rules.specs.declared.Posting.{Posting}
+use Rattle.rules.specs.Postings.{present, inserted, removed}
+use Rattle.rules.specs.Orders.{Numbered, byteAt}
+
+-- the list with these destinations
+unfoldable pub added : List Numbered → List Posting → List Posting
+added [] ps = ps
+added (d ∷ ds) ps = added ds (inserted (d .posting) ps)
+
+-- the list without these sources
+unfoldable pub takenAway : List Numbered → List Posting → List Posting
+takenAway [] ps = ps
+takenAway (d ∷ ds) ps = takenAway ds (removed (d .posting) ps)
+
+-- the change number of the destination or source at a place of its list
+abbrev pub numberAt : List Numbered → ℕ → ℕ
+numberAt ds k = getD ds k (record { number = 0; posting = record { binding = 0; key = 0; row = 0 } }) .number
+
+-- every byte from one place up to another is 0
+abbrev pub Quiet : List ℕ → ℕ → ℕ → Type 0
+Quiet strip from to = (i : ℕ) → from ≤ i → i < to → byteAt strip i ≡ 0
+
+-- some byte there is not 0
+pub record Noisy (strip : List ℕ) (from to : ℕ) : Type 0 where
+  pub place : ℕ
+  pub after : from ≤ place
+  pub below : place < to
+  pub fault : byteAt strip place ≡ 0 → ⊥
+
+-- upstream's removed_only: nothing came in, and only what is owned may have gone
+pub record RemovedOnly (before after owned : List Posting) : Type 0 where
+  pub inside : (p : Posting) → present p after ≡ true → present p before ≡ true
+  pub kept : (p : Posting) → present p before ≡ true → present p owned ≡ false → present p after ≡ true
