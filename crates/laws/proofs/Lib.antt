@@ -7,3 +7,5 @@ pub mod Steps
 pub mod Undo
 pub mod Prepare
 pub mod Remove
+pub mod Answers
+pub mod Checks

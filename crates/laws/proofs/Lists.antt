@@ -15,7 +15,7 @@ or-twice : (a b : Bool) → (a || b) ≡ (a || (a || b))
 or-twice true b = refl
 or-twice false b = refl
 
-or-swap : (a b c : Bool) → (a || (b || c)) ≡ (b || (a || c))
+pub or-swap : (a b c : Bool) → (a || (b || c)) ≡ (b || (a || c))
 or-swap true true c = refl
 or-swap true false c = refl
 or-swap false true c = refl

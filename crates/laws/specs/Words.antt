@@ -3,9 +3,12 @@
 use Prim.Native.Nat.{ℕ, _<_, _≤_}
 use mathlib.Core.Path.{_≡_}
 use mathlib.Core.List.{List, [], _∷_}
-use mathlib.Core.Bool.{true, false}
+use mathlib.Core.Bool.{Bool, true, false, _&&_, _||_}
 use lib.ListN.{getD}
+use lib.Dec.{eqb, leb}
 use Rattle.rules.specs.declared.Posting.{Posting}
+use Rattle.rules.specs.declared.Answer.{Answer}
+use Rattle.rules.specs.Answers.{toldOf}
 use Rattle.rules.specs.Postings.{present, inserted, removed}
 use Rattle.rules.specs.Orders.{Numbered, byteAt}
 
@@ -38,3 +41,11 @@ pub record Noisy (strip : List ℕ) (from to : ℕ) : Type 0 where
 pub record RemovedOnly (before after owned : List Posting) : Type 0 where
   pub inside : (p : Posting) → present p after ≡ true → present p before ≡ true
   pub kept : (p : Posting) → present p before ≡ true → present p owned ≡ false → present p after ≡ true
+
+-- 1 to 9 and 14: what a check refuses with
+abbrev pub isRefusal : Answer → Bool
+isRefusal a = (leb 1 (toldOf a .answer) && leb (toldOf a .answer) 9) || eqb (toldOf a .answer) 14
+
+-- 1 to 11 and 14: the answers that leave everything as before
+abbrev pub isUnchanged : Answer → Bool
+isUnchanged a = (leb 1 (toldOf a .answer) && leb (toldOf a .answer) 11) || eqb (toldOf a .answer) 14
