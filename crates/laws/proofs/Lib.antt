@@ -9,3 +9,5 @@ pub mod Prepare
 pub mod Remove
 pub mod Answers
 pub mod Checks
+pub mod Outcomes
+pub mod Calls

@@ -4,7 +4,7 @@ use Prim.Native.Nat.{ℕ, zero, suc, _+_, _≤_, _<_}
 use native.Mathlib.Omega.{arith}
 use mathlib.Core.Path.{_≡_, refl, sym, ap, _∙_}
 use mathlib.Core.List.{List, [], _∷_}
-use mathlib.Core.Bool.{Bool, true, false}
+use mathlib.Core.Bool.{Bool, true, false, _||_, or-assoc}
 use mathlib.Core.Logic.{_⊎_, inl, inr, ⊎-elim}
 use lib.ListN.{length}
 use lib.Dec.{ltb}
@@ -12,12 +12,12 @@ use borrow.Author.Tests.{ltb-true, ltb-false}
 use Rattle.rules.specs.declared.Posting.{Posting}
 use Rattle.rules.specs.declared.Answer.{Answer}
 use Rattle.rules.specs.declared.Verdict.{Verdict}
-use Rattle.rules.specs.Postings.{every, within, present, inserted}
+use Rattle.rules.specs.Postings.{every, within, same, present, inserted}
 use Rattle.rules.specs.Orders.{Numbered, byteAt, postingsOf}
 use Rattle.rules.specs.Publication.{Undone, undoing, Stage, whyNot, notInserted, preparing}
 use Rattle.laws.specs.Words.{added, takenAway, numberAt, Quiet, Noisy}
 use Rattle.laws.proofs.Tests.{either, and-left, and-right}
-use Rattle.laws.proofs.Lists.{length-inserted}
+use Rattle.laws.proofs.Lists.{or-swap, present-inserted, length-inserted}
 use Rattle.laws.proofs.Flat.{Sound}
 use Rattle.laws.proofs.Steps.{preparing-clear, preparing-full, preparing-store, sound-inserted}
 use Rattle.laws.proofs.Undo.{byte-is, quiet-cons, quiet-none, UndoClean, UndoFailed, undo-runs, undo-removes, undo-sound, Put, put-back, put-other}
@@ -156,3 +156,44 @@ module _ (capacity : ℕ) (strip : List ℕ) (base : List Posting) where
       go (inr b) l ih =
           rw (preparing-store strip d ds read ps capacity done b)
           (inr (stopped-here (Answer.Store (d .number)) d ds done read ps h w (store b)))
+
+-- what holds after the next insertion, and after any undo, holds of prepare
+prepare-step : (P : Stage → Type 0) (capacity : ℕ) (strip : List ℕ) (d : Numbered) (ds done : List Numbered) (read : ℕ) (ps : List Posting) → (length ps < capacity → P (preparing capacity strip ds (d ∷ done) (read + 1) (inserted (d .posting) ps))) → ((why : Answer) → P (notInserted why (d .number) (undoing strip done Verdict.Passes (read + 1) ps))) → P (preparing capacity strip (d ∷ ds) done read ps)
+prepare-step P capacity strip d ds done read ps next back = go (byte-is (byteAt strip read)) (either (ltb (length ps) capacity))
+  where
+    go : (byteAt strip read ≡ 0) ⊎ (byteAt strip read ≡ 0 → ⊥) → (ltb (length ps) capacity ≡ true) ⊎ (ltb (length ps) capacity ≡ false) → P (preparing capacity strip (d ∷ ds) done read ps)
+    go (inl b) (inl l) =
+        let k = ltb-true (length ps) capacity l in
+        rw (preparing-clear strip d ds read ps capacity done b k) (next k)
+    go (inl b) (inr l) =
+        rw (preparing-full strip d ds read ps capacity done b (ltb-false (length ps) capacity l)) (back (Answer.Full (d .number)))
+    go (inr b) l = rw (preparing-store strip d ds read ps capacity done b) (back (Answer.Store (d .number)))
+
+either-left : (a b : Bool) → a ≡ true → (a || b) ≡ true
+either-left a b h = rw h
+
+-- whatever the strip, nothing comes in but destinations
+pub prepare-inside : (capacity : ℕ) (strip : List ℕ) (ds done : List Numbered) (read : ℕ) (ps : List Posting) (p : Posting) → present p (preparing capacity strip ds done read ps .postings) ≡ true → (present p ps || present p (postingsOf ds)) ≡ true
+unfolding preparing present
+prepare-inside capacity strip [] done read ps p h = either-left (present p ps) false h
+prepare-inside capacity strip (d ∷ ds) done read ps p h =
+    prepare-step (λ (s : Stage). present p (s .postings) ≡ true → (present p ps || (same p (d .posting) || present p (postingsOf ds))) ≡ true) capacity strip d ds done read ps
+    (λ l k.
+    or-swap (present p ps) (same p (d .posting)) (present p (postingsOf ds))
+    ∙ (sym (or-assoc (same p (d .posting)) (present p ps) (present p (postingsOf ds)))
+    ∙ (ap (λ b. b || present p (postingsOf ds)) (sym (present-inserted p (d .posting) ps))
+    ∙ prepare-inside capacity strip ds (d ∷ done) (read + 1) (inserted (d .posting) ps) p k)))
+    (λ why k. either-left (present p ps) _ (undo-removes strip done Verdict.Passes (read + 1) ps .inside p k))
+    h
+
+-- and sound postings stay sound
+pub prepare-sound : (n capacity : ℕ) (strip : List ℕ) (ds done : List Numbered) (read : ℕ) (ps : List Posting) → every (within n) (postingsOf ds) ≡ true → Sound n capacity ps → Sound n capacity (preparing capacity strip ds done read ps .postings)
+unfolding preparing every
+prepare-sound n capacity strip [] done read ps h s = s
+prepare-sound n capacity strip (d ∷ ds) done read ps h s =
+    prepare-step (λ (t : Stage). Sound n capacity (t .postings)) capacity strip d ds done read ps
+    (λ l.
+    prepare-sound n capacity strip ds (d ∷ done) (read + 1) (inserted (d .posting) ps)
+    (and-right (within n (d .posting)) (every (within n) (postingsOf ds)) h)
+    (sound-inserted n capacity (d .posting) ps (and-left (within n (d .posting)) (every (within n) (postingsOf ds)) h) l s))
+    (λ why. undo-sound n capacity strip done Verdict.Passes (read + 1) ps s)

@@ -1,0 +1,128 @@
+-- The calls as wholes: an answer of 1 to 11 or 14 leaves table, head and record as before, for any head and table; and a table
+-- that is well formed stays so, whatever is answered.
+use Prim.Native.Nat.{ℕ, zero, suc, _+_, _≤_, _<_}
+use native.Mathlib.Omega.{arith}
+use mathlib.Core.Path.{_≡_, refl, sym, ap, _∙_}
+use mathlib.Core.List.{List, [], _∷_, reverse}
+use mathlib.Core.Bool.{Bool, true, false, cond}
+use mathlib.Core.Logic.{_⊎_, inl, inr, ⊎-elim}
+use lib.ListN.{length}
+use Rattle.rules.specs.declared.Posting.{Posting}
+use Rattle.rules.specs.declared.Head.{Head}
+use Rattle.rules.specs.declared.Answer.{Answer}
+use Rattle.rules.specs.declared.Verdict.{Verdict}
+use Rattle.rules.specs.Table.{capacity, postings, laidOut, wellFormed}
+use Rattle.rules.specs.Orders.{Numbered, destinations, sources, recorded}
+use Rattle.rules.specs.Answers.{isAccepted, poisons, settled}
+use Rattle.rules.specs.Checks.{Call, changesOf, prepareChecks, rollbackChecks, removalChecks, publishChecks}
+use Rattle.rules.specs.Publication.{Undone, undoing, Stage, preparing, removing, rolledBack, thenSources}
+use Rattle.rules.specs.Calls.{Outcome, asBefore, decided, headAfter, shown, recordAfter, prepared, prepareOf, rollbackOf, removalOf, publishOf}
+use Rattle.laws.specs.Words.{isUnchanged}
+use Rattle.laws.proofs.Tests.{by-cases, clash}
+use Rattle.laws.proofs.Flat.{WellFormed, well-formed-parts, Sound, sound-postings, well-formed-laid-out}
+use Rattle.laws.proofs.Undo.{UndoClean, UndoFailed, undo-runs, undo-sound}
+use Rattle.laws.proofs.Prepare.{Ready, Stopped, TakenBack, LeftBehind, prepare-sound}
+use Rattle.laws.proofs.Remove.{Cleared, Halted, remove-runs, remove-sound}
+use Rattle.laws.proofs.Checks.{Clear, prepare-clear, publish-clear, rollback-formed, removal-formed}
+use Rattle.laws.proofs.Outcomes.{shown-same, cause-poisons-not, start, going, leaving, recordedBack, undid, removedAlone, prepared-runs, Published, published, Prepares, prepares, RollsBack, rolls-back, Removes, removes}
+
+-- an outcome as before has its own answer
+own-answer : (head : Head) (table list : List ℕ) (o : Outcome) (a : Answer) → o ≡ asBefore head table list a → o ≡ asBefore head table list (o .answer)
+own-answer head table list o a e = e ∙ ap (asBefore head table list) (sym (ap (λ (x : Outcome). x .answer) e))
+
+-- an answer that is none of these
+not-unchanged : {A : Type 0} (a b : Answer) → isUnchanged a ≡ true → a ≡ b → isUnchanged b ≡ false → A
+not-unchanged a b h e k = absurd (clash (isUnchanged b) (rw e at h) k)
+
+module _ (head : Head) (table : List ℕ) (c : Call) where
+  -- where prepare stopped with an answer of these, all was taken back
+  stopped-same : Clear head table c → Stopped (capacity table) (c .strip) (start head table c) (going head table c) 0 0 (length (start head table c)) (prepared head table c) → isUnchanged (prepared head table c .answer) ≡ true → shown head table (c .recordList) (prepared head table c) ≡ asBefore head table (c .recordList) (prepared head table c .answer)
+  stopped-same k s h =
+      ⊎-elim
+      (λ b.
+      own-answer head table (c .recordList) (shown head table (c .recordList) (prepared head table c)) (s .why)
+      (shown-same head table (c .recordList) (prepared head table c) (s .why) (k .formed) (b .answers) (cause-poisons-not _ _ _ _ (s .why) (s .cause)) (b .leaves)))
+      (λ b. not-unchanged (prepared head table c .answer) _ h (b .answers) refl)
+      (s .undo)
+
+  pub publish-as-before : isUnchanged (publishOf head table c .answer) ≡ true → publishOf head table c ≡ asBefore head table (c .recordList) (publishOf head table c .answer)
+  publish-as-before h = go (publishOf head table c) (published head table c) h
+    where
+      go : (o : Outcome) → Published head table c o → isUnchanged (o .answer) ≡ true → o ≡ asBefore head table (c .recordList) (o .answer)
+      go o (Published.refused a e k) u = own-answer head table (c .recordList) o a k
+      go o (Published.taken e r l k) u = not-unchanged (o .answer) _ u (ap (λ (x : Outcome). x .answer) k) refl
+      go o (Published.halted e r l k) u = not-unchanged (o .answer) _ u (ap (λ (x : Outcome). x .answer) k ∙ l .answers) refl
+      go o (Published.stopped e s k) u = rw k (stopped-same (publish-clear head table c e) s (rw k at u))
+
+  pub prepare-as-before : isUnchanged (prepareOf head table c .answer) ≡ true → prepareOf head table c ≡ asBefore head table (c .recordList) (prepareOf head table c .answer)
+  prepare-as-before h = go (prepareOf head table c) (prepares head table c) h
+    where
+      go : (o : Outcome) → Prepares head table c o → isUnchanged (o .answer) ≡ true → o ≡ asBefore head table (c .recordList) (o .answer)
+      go o (Prepares.refused a e k) u = own-answer head table (c .recordList) o a k
+      go o (Prepares.ready e r k) u = not-unchanged (o .answer) _ u (ap (λ (x : Outcome). x .answer) k ∙ r .answers) refl
+      go o (Prepares.stopped e s k) u = rw k (stopped-same (prepare-clear head table c e) s (rw k at u))
+
+  pub rollback-as-before : isUnchanged (rollbackOf head table c .answer) ≡ true → rollbackOf head table c ≡ asBefore head table (c .recordList) (rollbackOf head table c .answer)
+  rollback-as-before h = go (rollbackOf head table c) (rolls-back head table c) h
+    where
+      go : (o : Outcome) → RollsBack head table c o → isUnchanged (o .answer) ≡ true → o ≡ asBefore head table (c .recordList) (o .answer)
+      go o (RollsBack.refused a e k) u = own-answer head table (c .recordList) o a k
+      go o (RollsBack.clean e r k) u =
+          not-unchanged (o .answer) _ u (ap (λ (x : Outcome). x .answer) k ∙ ap (λ v. settled v (Answer.Accepted 0)) (r .verdict)) refl
+      go o (RollsBack.failed e r k) u =
+          not-unchanged (o .answer) _ u (ap (λ (x : Outcome). x .answer) k ∙ ap (λ v. settled v (Answer.Accepted 0)) (r .verdict)) refl
+
+  pub removal-as-before : isUnchanged (removalOf head table c .answer) ≡ true → removalOf head table c ≡ asBefore head table (c .recordList) (removalOf head table c .answer)
+  removal-as-before h = go (removalOf head table c) (removes head table c) h
+    where
+      go : (o : Outcome) → Removes head table c o → isUnchanged (o .answer) ≡ true → o ≡ asBefore head table (c .recordList) (o .answer)
+      go o (Removes.refused a e k) u = own-answer head table (c .recordList) o a k
+      go o (Removes.cleared e r k) u = not-unchanged (o .answer) _ u (ap (λ (x : Outcome). x .answer) k ∙ r .answers) refl
+      go o (Removes.halted e r k) u = not-unchanged (o .answer) _ u (ap (λ (x : Outcome). x .answer) k ∙ r .answers) refl
+
+  -- sound postings shown in a well-formed table are well formed
+  shown-well-formed : (s : Stage) → wellFormed head table ≡ true → Sound (head .bindings) (capacity table) (s .postings) → wellFormed (headAfter head (s .answer) (s .postings)) (laidOut (length table) (s .postings)) ≡ true
+  shown-well-formed s h k =
+      let w = well-formed-parts head table h in
+      well-formed-laid-out head (headAfter head (s .answer) (s .postings)) table (s .postings) w k refl refl
+      (by-cases (λ (n : ℕ). n ≤ 1) (poisons (s .answer)) (λ e. omega arith) (λ e. w .flag))
+
+  decided-well-formed : (v : Verdict) (o : Outcome) → wellFormed head table ≡ true → (v ≡ Verdict.Passes → wellFormed (o .head) (o .table) ≡ true) → wellFormed (decided v (asBefore head table (c .recordList)) o .head) (decided v (asBefore head table (c .recordList)) o .table) ≡ true
+  decided-well-formed Verdict.Passes o h f = f refl
+  decided-well-formed (Verdict.Refused a) o h f = h
+
+  start-sound : wellFormed head table ≡ true → Sound (head .bindings) (capacity table) (start head table c)
+  start-sound h = sound-postings head table (well-formed-parts head table h)
+
+  prepared-sound : Clear head table c → Sound (head .bindings) (capacity table) (prepared head table c .postings)
+  prepared-sound k =
+      prepare-sound (head .bindings) (capacity table) (c .strip) (going head table c) [] 0 (start head table c) (k .bound) (start-sound (k .formed))
+
+  pub prepare-well-formed : wellFormed head table ≡ true → wellFormed (prepareOf head table c .head) (prepareOf head table c .table) ≡ true
+  unfolding prepareOf
+  prepare-well-formed h =
+      decided-well-formed (prepareChecks head table c) _ h λ e. shown-well-formed (prepared head table c) h (prepared-sound (prepare-clear head table c e))
+
+  pub rollback-well-formed : wellFormed head table ≡ true → wellFormed (rollbackOf head table c .head) (rollbackOf head table c .table) ≡ true
+  unfolding rollbackOf
+  rollback-well-formed h =
+      decided-well-formed (rollbackChecks head table c) _ h λ e.
+      shown-well-formed (rolledBack (undid head table c)) h
+      (undo-sound (head .bindings) (capacity table) (c .strip) (recordedBack head table c) Verdict.Passes 0 (start head table c) (start-sound h))
+
+  pub removal-well-formed : wellFormed head table ≡ true → wellFormed (removalOf head table c .head) (removalOf head table c .table) ≡ true
+  unfolding removalOf
+  removal-well-formed h =
+      decided-well-formed (removalChecks head table c) _ h λ e.
+      shown-well-formed (removedAlone head table c) h
+      (remove-sound (c .strip) (Answer.Accepted 0) (head .bindings) (capacity table) (leaving head table c) 0 (start head table c) (start-sound h))
+
+  pub publish-well-formed : wellFormed head table ≡ true → wellFormed (publishOf head table c .head) (publishOf head table c .table) ≡ true
+  unfolding publishOf
+  publish-well-formed h =
+      decided-well-formed (publishChecks head table c) _ h λ e.
+      let s = prepared-sound (publish-clear head table c e) in
+      shown-well-formed (thenSources (c .strip) (leaving head table c) (prepared head table c)) h
+      (by-cases (λ (t : Stage). Sound (head .bindings) (capacity table) (t .postings)) (isAccepted (prepared head table c .answer))
+      (λ a. remove-sound (c .strip) _ (head .bindings) (capacity table) (leaving head table c) _ _ s)
+      (λ a. s))

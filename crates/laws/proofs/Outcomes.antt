@@ -1,0 +1,163 @@
+-- How each call ends, seen on the lent table. Every law about whole calls goes by these cases.
+use Prim.Native.Nat.{ℕ, zero, suc, _+_, _*_, _≤_, _<_}
+use native.Mathlib.Omega.{arith}
+use mathlib.Core.Path.{_≡_, refl, sym, ap, _∙_}
+use mathlib.Core.List.{List, [], _∷_, reverse}
+use mathlib.Core.Bool.{Bool, true, false, cond}
+use mathlib.Core.Logic.{_⊎_, inl, inr, ⊎-elim}
+use lib.ListN.{length}
+use Rattle.rules.specs.declared.Posting.{Posting}
+use Rattle.rules.specs.declared.Head.{Head}
+use Rattle.rules.specs.declared.Answer.{Answer}
+use Rattle.rules.specs.declared.Verdict.{Verdict}
+use Rattle.rules.specs.Table.{capacity, postings, laidOut, wellFormed}
+use Rattle.rules.specs.Orders.{Numbered, destinations, sources, numbersOf, recorded, byteAt}
+use Rattle.rules.specs.Answers.{isAccepted, poisons}
+use Rattle.rules.specs.Checks.{Call, changesOf, prepareChecks, rollbackChecks, removalChecks, publishChecks}
+use Rattle.rules.specs.Publication.{Undone, undoing, Stage, preparing, removing, rolledBack, thenSources}
+use Rattle.rules.specs.Calls.{Outcome, asBefore, decided, headAfter, shown, written, recordAfter, prepared, prepareOf, rollbackOf, removalOf, publishOf}
+use Rattle.laws.specs.Words.{added, takenAway, numberAt, Quiet, Noisy}
+use Rattle.laws.proofs.Flat.{WellFormed, well-formed-parts, used-postings, laid-out-same}
+use Rattle.laws.proofs.Undo.{UndoClean, UndoFailed, undo-runs}
+use Rattle.laws.proofs.Prepare.{Fresh, Ready, Cause, store, full, TakenBack, LeftBehind, Stopped, prepare-runs}
+use Rattle.laws.proofs.Remove.{Cleared, Halted, remove-runs}
+use Rattle.laws.proofs.Checks.{Clear, publish-clear, prepare-clear}
+
+-- a stage that leaves the postings as they were, and poisons not, leaves everything as before
+pub shown-same : (head : Head) (table list : List ℕ) (s : Stage) (a : Answer) → wellFormed head table ≡ true → s .answer ≡ a → poisons a ≡ false → s .postings ≡ postings (head .used) table → shown head table list s ≡ asBefore head table list a
+shown-same head table list s a h e n k =
+    let w = well-formed-parts head table h in
+    let u : length (s .postings) ≡ head .used = ap length k ∙ used-postings head table w in
+    let t : laidOut (length table) (s .postings) ≡ table = ap (laidOut (length table)) k ∙ laid-out-same head table w in
+    let p : cond (poisons (s .answer)) 1 (head .poisoned) ≡ head .poisoned = rw (e, n) in
+    λ i. record { answer = e i; head = record { bindings = head .bindings; used = u i; poisoned = p i }; table = t i; recordList = list }
+
+pub cause-poisons-not : (byte used size change : ℕ) (why : Answer) → Cause byte used size change why → poisons why ≡ false
+cause-poisons-not byte used size change why (store h) = refl
+cause-poisons-not byte used size change why (full h k) = refl
+
+module _ (head : Head) (table : List ℕ) (c : Call) where
+  abbrev pub start : List Posting
+  start = postings (head .used) table
+
+  abbrev pub going : List Numbered
+  going = destinations (changesOf c)
+
+  abbrev pub leaving : List Numbered
+  leaving = sources (changesOf c)
+
+  -- what an accepted publish answers and leaves
+  abbrev pub accepted : Outcome
+  accepted =
+      shown head table (written (numbersOf going) (c .recordList))
+      (record { answer = Answer.Accepted (length going); postings = takenAway leaving (added going start); read = 0 })
+
+  -- its source removal
+  abbrev pub sourcesGone : Stage
+  sourcesGone = removing (c .strip) (Answer.Accepted (length going)) leaving (length going) (added going start)
+
+  pub data Published (o : Outcome) : Type 0 where
+    refused : (a : Answer) → publishChecks head table c ≡ Verdict.Refused a → o ≡ asBefore head table (c .recordList) a → Published o
+    taken : publishChecks head table c ≡ Verdict.Passes → Ready (capacity table) (c .strip) going [] 0 start (prepared head table c) → Cleared (c .strip) (Answer.Accepted (length going)) leaving (length going) (added going start) sourcesGone → o ≡ accepted → Published o
+    halted : publishChecks head table c ≡ Verdict.Passes → Ready (capacity table) (c .strip) going [] 0 start (prepared head table c) → Halted (c .strip) leaving (length going) sourcesGone → o ≡ shown head table (written (numbersOf going) (c .recordList)) sourcesGone → Published o
+    stopped : publishChecks head table c ≡ Verdict.Passes → Stopped (capacity table) (c .strip) start going 0 0 (length start) (prepared head table c) → o ≡ shown head table (c .recordList) (prepared head table c) → Published o
+
+  -- prepare's part: what it comes to where its checks pass
+  pub prepared-runs : Clear head table c → Ready (capacity table) (c .strip) going [] 0 start (prepared head table c) ⊎ Stopped (capacity table) (c .strip) start going 0 0 (length start) (prepared head table c)
+  prepared-runs k =
+      let w = well-formed-parts head table (k .formed) in
+      let u = used-postings head table w in
+      let r = w .room in
+      prepare-runs (capacity table) (c .strip) start going [] 0 start (k .fresh) refl (omega arith)
+
+  stop-not-accepted : Stopped (capacity table) (c .strip) start going 0 0 (length start) (prepared head table c) → isAccepted (prepared head table c .answer) ≡ false
+  stop-not-accepted s = ⊎-elim (λ b. rw (b .answers) (other (s .cause))) (λ b. rw (b .answers)) (s .undo)
+    where
+      other : Cause (byteAt (c .strip) (0 + s .at)) (length start + s .at) (capacity table) (numberAt going (s .at)) (s .why) → isAccepted (s .why) ≡ false
+      other k = go (s .why) k
+        where
+          go : (a : Answer) → Cause (byteAt (c .strip) (0 + s .at)) (length start + s .at) (capacity table) (numberAt going (s .at)) a → isAccepted a ≡ false
+          go a (store h) = refl
+          go a (full h l) = refl
+
+  ready-sources : Ready (capacity table) (c .strip) going [] 0 start (prepared head table c) → thenSources (c .strip) leaving (prepared head table c) ≡ sourcesGone
+  ready-sources r =
+      let a : prepared head table c .answer ≡ Answer.Accepted (length going) = r .answers ∙ ap Answer.Accepted (omega arith) in
+      let n : prepared head table c .read ≡ length going = let k = r .reads in omega arith in
+      rw (a, r .leaves, n)
+
+  ready-record : Ready (capacity table) (c .strip) going [] 0 start (prepared head table c) → recordAfter (prepared head table c) going (c .recordList) ≡ written (numbersOf going) (c .recordList)
+  ready-record r = rw (r .answers)
+
+  cleared-accepted : (list : List ℕ) → Cleared (c .strip) (Answer.Accepted (length going)) leaving (length going) (added going start) sourcesGone → shown head table list sourcesGone ≡ shown head table list (record { answer = Answer.Accepted (length going); postings = takenAway leaving (added going start); read = 0 })
+  cleared-accepted list k = rw (k .answers, k .leaves)
+
+  pub published : Published (publishOf head table c)
+  unfolding publishOf
+  published = go (publishChecks head table c) refl
+    where
+      go : (v : Verdict) → publishChecks head table c ≡ v → Published (decided v (asBefore head table (c .recordList)) (shown head table (recordAfter (prepared head table c) going (c .recordList)) (thenSources (c .strip) leaving (prepared head table c))))
+      go (Verdict.Refused a) e = Published.refused a e refl
+      go Verdict.Passes e = ⊎-elim ready stop (prepared-runs (publish-clear head table c e))
+        where
+          ready : Ready (capacity table) (c .strip) going [] 0 start (prepared head table c) → Published (shown head table (recordAfter (prepared head table c) going (c .recordList)) (thenSources (c .strip) leaving (prepared head table c)))
+          ready r =
+              rw (ready-sources r, ready-record r)
+              (⊎-elim (λ k. Published.taken e r k (cleared-accepted (written (numbersOf going) (c .recordList)) k)) (λ k. Published.halted e r k refl)
+              (remove-runs (c .strip) (Answer.Accepted (length going)) leaving (length going) (added going start)))
+
+          stop : Stopped (capacity table) (c .strip) start going 0 0 (length start) (prepared head table c) → Published (shown head table (recordAfter (prepared head table c) going (c .recordList)) (thenSources (c .strip) leaving (prepared head table c)))
+          stop s = rw (stop-not-accepted s) (Published.stopped e s refl)
+
+  pub data Prepares (o : Outcome) : Type 0 where
+    refused : (a : Answer) → prepareChecks head table c ≡ Verdict.Refused a → o ≡ asBefore head table (c .recordList) a → Prepares o
+    ready : prepareChecks head table c ≡ Verdict.Passes → Ready (capacity table) (c .strip) going [] 0 start (prepared head table c) → o ≡ shown head table (written (numbersOf going) (c .recordList)) (prepared head table c) → Prepares o
+    stopped : prepareChecks head table c ≡ Verdict.Passes → Stopped (capacity table) (c .strip) start going 0 0 (length start) (prepared head table c) → o ≡ shown head table (c .recordList) (prepared head table c) → Prepares o
+
+  pub prepares : Prepares (prepareOf head table c)
+  unfolding prepareOf
+  prepares = go (prepareChecks head table c) refl
+    where
+      go : (v : Verdict) → prepareChecks head table c ≡ v → Prepares (decided v (asBefore head table (c .recordList)) (shown head table (recordAfter (prepared head table c) going (c .recordList)) (prepared head table c)))
+      go (Verdict.Refused a) e = Prepares.refused a e refl
+      go Verdict.Passes e =
+          ⊎-elim (λ r. Prepares.ready e r (rw (r .answers))) (λ s. Prepares.stopped e s (rw (stop-not-accepted s))) (prepared-runs (prepare-clear head table c e))
+
+  -- rollback's run over its record, from the end to the start
+  abbrev pub recordedBack : List Numbered
+  recordedBack = reverse (recorded (changesOf c) (c .recordList))
+
+  abbrev pub undid : Undone
+  undid = undoing (c .strip) recordedBack Verdict.Passes 0 start
+
+  pub data RollsBack (o : Outcome) : Type 0 where
+    refused : (a : Answer) → rollbackChecks head table c ≡ Verdict.Refused a → o ≡ asBefore head table (c .recordList) a → RollsBack o
+    clean : rollbackChecks head table c ≡ Verdict.Passes → UndoClean (c .strip) recordedBack Verdict.Passes 0 start undid → o ≡ shown head table (c .recordList) (rolledBack undid) → RollsBack o
+    failed : rollbackChecks head table c ≡ Verdict.Passes → UndoFailed (c .strip) recordedBack 0 undid → o ≡ shown head table (c .recordList) (rolledBack undid) → RollsBack o
+
+  pub rolls-back : RollsBack (rollbackOf head table c)
+  unfolding rollbackOf
+  rolls-back = go (rollbackChecks head table c) refl
+    where
+      go : (v : Verdict) → rollbackChecks head table c ≡ v → RollsBack (decided v (asBefore head table (c .recordList)) (shown head table (c .recordList) (rolledBack undid)))
+      go (Verdict.Refused a) e = RollsBack.refused a e refl
+      go Verdict.Passes e =
+          ⊎-elim (λ k. RollsBack.clean e k refl) (λ k. RollsBack.failed e k refl) (undo-runs (c .strip) recordedBack Verdict.Passes 0 start)
+
+  -- source removal alone
+  abbrev pub removedAlone : Stage
+  removedAlone = removing (c .strip) (Answer.Accepted 0) leaving 0 start
+
+  pub data Removes (o : Outcome) : Type 0 where
+    refused : (a : Answer) → removalChecks head table c ≡ Verdict.Refused a → o ≡ asBefore head table (c .recordList) a → Removes o
+    cleared : removalChecks head table c ≡ Verdict.Passes → Cleared (c .strip) (Answer.Accepted 0) leaving 0 start removedAlone → o ≡ shown head table (c .recordList) removedAlone → Removes o
+    halted : removalChecks head table c ≡ Verdict.Passes → Halted (c .strip) leaving 0 removedAlone → o ≡ shown head table (c .recordList) removedAlone → Removes o
+
+  pub removes : Removes (removalOf head table c)
+  unfolding removalOf
+  removes = go (removalChecks head table c) refl
+    where
+      go : (v : Verdict) → removalChecks head table c ≡ v → Removes (decided v (asBefore head table (c .recordList)) (shown head table (c .recordList) removedAlone))
+      go (Verdict.Refused a) e = Removes.refused a e refl
+      go Verdict.Passes e =
+          ⊎-elim (λ k. Removes.cleared e k refl) (λ k. Removes.halted e k refl) (remove-runs (c .strip) (Answer.Accepted 0) leaving 0 start)
