@@ -45,6 +45,10 @@ pub rest-passes : (v : Verdict) (vs : List Verdict) → firstRefusal (v ∷ vs) 
 unfolding firstRefusal
 rest-passes v vs h = else-second v (firstRefusal vs) h
 
+pub cons-passes : (v : Verdict) (vs : List Verdict) → v ≡ Verdict.Passes → firstRefusal vs ≡ Verdict.Passes → firstRefusal (v ∷ vs) ≡ Verdict.Passes
+unfolding firstRefusal
+cons-passes v vs h k = rw (h, k)
+
 -- a verdict that passes or refuses as a check does
 abbrev pub isProper : Verdict → Bool
 isProper Verdict.Passes = true

@@ -11,3 +11,4 @@ pub mod Answers
 pub mod Checks
 pub mod Outcomes
 pub mod Calls
+pub mod Sets

@@ -1,0 +1,59 @@
+-- When a publish is accepted, and how it ends otherwise, told by its checks, the room in the table and the bytes of the strip
+-- alone. No step of prepare, undo or source removal is named here.
+use Prim.Native.Nat.{ℕ, _+_, _≤_, _<_}
+use mathlib.Core.Path.{_≡_}
+use mathlib.Core.List.{List}
+use mathlib.Core.Bool.{Bool, true, false, not, _&&_, _||_}
+use mathlib.Core.Logic.{_⊎_}
+use lib.ListN.{length}
+use Rattle.rules.specs.declared.Posting.{Posting}
+use Rattle.rules.specs.declared.Head.{Head}
+use Rattle.rules.specs.declared.Answer.{Answer}
+use Rattle.rules.specs.declared.Verdict.{Verdict}
+use Rattle.rules.specs.Postings.{present, ascending}
+use Rattle.rules.specs.Table.{capacity, postings, laidOut}
+use Rattle.rules.specs.Orders.{Numbered, byteAt, destinations, sources, postingsOf, numbersOf}
+use Rattle.rules.specs.Checks.{Call, changesOf, publishChecks}
+use Rattle.rules.specs.Calls.{Outcome, written}
+use Rattle.laws.specs.Words.{numberAt, Quiet, Noisy}
+
+-- no check 1 to 9 applies, there is room for all destinations, and every byte that is read is 0
+pub record Acceptable (head : Head) (table : List ℕ) (c : Call) : Type 0 where
+  pub passes : publishChecks head table c ≡ Verdict.Passes
+  pub room : head .used + length (destinations (changesOf c)) ≤ capacity table
+  pub quiet : Quiet (c .strip) 0 (length (destinations (changesOf c)) + length (sources (changesOf c)))
+
+-- insertion k is the first to fail: those before it met byte 0 and room; it meets another byte, or no room
+pub record Fails (capacity used : ℕ) (strip : List ℕ) (ds : List Numbered) (k : ℕ) : Type 0 where
+  pub there : k < length ds
+  pub quiet : Quiet strip 0 k
+  pub room : used + k ≤ capacity
+  pub fault : (byteAt strip k ≡ 0 → ⊥) ⊎ (used + k ≡ capacity)
+
+-- how a publish ends that no check refuses; the undo of k insertions reads the k bytes after byte k
+pub data Ends (capacity used : ℕ) (strip : List ℕ) (ds ss : List Numbered) : Answer → Type 0 where
+  accepted : used + length ds ≤ capacity → Quiet strip 0 (length ds + length ss) → Ends capacity used strip ds ss (Answer.Accepted (length ds))
+  store : (k : ℕ) → Fails capacity used strip ds k → (byteAt strip k ≡ 0 → ⊥) → Quiet strip (k + 1) (k + 1 + k) → Ends capacity used strip ds ss (Answer.Store (numberAt ds k))
+  full : (k : ℕ) → Fails capacity used strip ds k → byteAt strip k ≡ 0 → Quiet strip (k + 1) (k + 1 + k) → Ends capacity used strip ds ss (Answer.Full (numberAt ds k))
+  undo : (k : ℕ) → Fails capacity used strip ds k → Noisy strip (k + 1) (k + 1 + k) → Ends capacity used strip ds ss (Answer.Undo (numberAt ds k))
+  source : (j : ℕ) → j < length ss → used + length ds ≤ capacity → Quiet strip 0 (length ds + j) → (byteAt strip (length ds + j) ≡ 0 → ⊥) → Ends capacity used strip ds ss (Answer.Source (numberAt ss j))
+
+-- the answer of a publish: the first check's that applies, and else by how it ends
+pub data Answered (head : Head) (table : List ℕ) (c : Call) (a : Answer) : Type 0 where
+  refused : publishChecks head table c ≡ Verdict.Refused a → Answered head table c a
+  ended : publishChecks head table c ≡ Verdict.Passes → Ends (capacity table) (head .used) (c .strip) (destinations (changesOf c)) (sources (changesOf c)) a → Answered head table c a
+
+-- a posting stands in the table or is a destination, and is no source
+abbrev pub saidOf : Head → List ℕ → Call → Posting → Bool
+saidOf head table c p =
+    (present p (postings (head .used) table) || present p (postingsOf (destinations (changesOf c))))
+    && not (present p (postingsOf (sources (changesOf c))))
+
+-- what an accepted publish leaves: (postings and destinations) less sources, as a set and as the one ascending list
+pub record Leaves (head : Head) (table : List ℕ) (c : Call) (o : Outcome) : Type 0 where
+  pub answer : o .answer ≡ Answer.Accepted (length (destinations (changesOf c)))
+  pub bindings : o .head .bindings ≡ head .bindings
+  pub poisoned : o .head .poisoned ≡ head .poisoned
+  pub recordList : o .recordList ≡ written (numbersOf (destinations (changesOf c))) (c .recordList)
+  pub set : (p : Posting) → present p (postings (o .head .used) (o .table)) ≡ saidOf head table c p
+  pub list : (l : List Posting) → ascending l ≡ true → ((p : Posting) → present p l ≡ saidOf head table c p) → (o .head .used ≡ length l) × (o .table ≡ laidOut (length table) l)

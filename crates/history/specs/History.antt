@@ -1,0 +1,113 @@
+-- Demand 3: a table that only publish calls write. All words here are over the rules of one publish and one count; there is no
+-- second model.
+use Prim.Native.Nat.{ℕ, zero}
+use mathlib.Core.Path.{_≡_}
+use mathlib.Core.List.{List, [], _∷_, _++_, map}
+use mathlib.Core.Bool.{Bool, true, false, cond, not, _&&_}
+use lib.ListN.{length}
+use lib.Dec.{ltb}
+use Rattle.rules.specs.declared.Posting.{Posting}
+use Rattle.rules.specs.declared.Head.{Head}
+use Rattle.rules.specs.declared.Answer.{Answer}
+use Rattle.rules.specs.Postings.{counted}
+use Rattle.rules.specs.Table.{laidOut, wellFormed}
+use Rattle.rules.specs.Orders.{destinations, sources}
+use Rattle.rules.specs.Answers.{isAccepted, poisons}
+use Rattle.rules.specs.Checks.{Call, changesOf}
+use Rattle.rules.specs.Calls.{Outcome, asBefore, publishOf, countOf}
+use Rattle.laws.specs.Words.{added, takenAway}
+
+-- a table with its head
+pub record Index : Type 0 where
+  pub head : Head
+  pub table : List ℕ
+
+abbrev pub published : Index → Call → Outcome
+published x c = publishOf (x .head) (x .table) c
+
+abbrev pub countedIn : Index → ℕ → ℕ → Answer
+countedIn x binding key = countOf (x .head) (x .table) binding key
+
+abbrev pub left : Outcome → Index
+left o = record { head = o .head; table = o .table }
+
+-- the index after a list of publish calls
+unfoldable pub after : Index → List Call → Index
+after x [] = x
+after x (c ∷ cs) = after (left (published x c)) cs
+
+-- what each call answered and left: answer, head, table and record list
+unfoldable pub outcomes : Index → List Call → List Outcome
+outcomes x [] = []
+outcomes x (c ∷ cs) = published x c ∷ outcomes (left (published x c)) cs
+
+-- no call answered 12 or 13
+unfoldable pub unbroken : Index → List Call → Bool
+unbroken x [] = true
+unbroken x (c ∷ cs) = not (poisons (published x c .answer)) && unbroken (left (published x c)) cs
+
+-- the calls that were accepted, in order, and their outcomes
+unfoldable pub accepted : Index → List Call → List Call
+accepted x [] = []
+accepted x (c ∷ cs) =
+    cond (isAccepted (published x c .answer)) (c ∷ accepted (left (published x c)) cs) (accepted (left (published x c)) cs)
+
+unfoldable pub acceptedOutcomes : Index → List Call → List Outcome
+acceptedOutcomes x [] = []
+acceptedOutcomes x (c ∷ cs) =
+    cond (isAccepted (published x c .answer))
+    (published x c ∷ acceptedOutcomes (left (published x c)) cs)
+    (acceptedOutcomes (left (published x c)) cs)
+
+-- what calls say, in order: destinations added, sources taken away
+unfoldable pub said : List Call → List Posting → List Posting
+said [] ps = ps
+said (c ∷ cs) ps = said cs (takenAway (sources (changesOf c)) (added (destinations (changesOf c)) ps))
+
+-- the index of this size and binding count that holds these postings, unpoisoned
+abbrev pub holding : Index → List Posting → Index
+holding x ps =
+    record {
+      head = record { bindings = x .head .bindings; used = length ps; poisoned = 0 };
+      table = laidOut (length (x .table)) ps;
+    }
+
+-- the same call with no storage failure
+abbrev pub quiet : Call → Call
+quiet c = record { changeList = c .changeList; guardList = c .guardList; strip = []; recordList = c .recordList }
+
+-- well formed, empty, unpoisoned
+pub record Empty (x : Index) : Type 0 where
+  pub formed : wellFormed (x .head) (x .table) ≡ true
+  pub unused : x .head .used ≡ 0
+  pub healthy : x .head .poisoned ≡ 0
+
+-- of equal size and binding count
+pub record Alike (x y : Index) : Type 0 where
+  pub size : length (y .table) ≡ length (x .table)
+  pub bindings : y .head .bindings ≡ x .head .bindings
+
+-- until a call answers 12 or 13
+pub record Right (x : Index) (cs : List Call) : Type 0 where
+  -- table and head are what the accepted calls alone say, in order
+  pub table : after x cs ≡ holding x (said (accepted x cs) [])
+  -- a count answered now is that table's own number (6 where its binding is not below the count)
+  pub counts : (binding key : ℕ) → countedIn (after x cs) binding key ≡ cond (ltb binding (x .head .bindings)) (Answer.Accepted (counted binding key (said (accepted x cs) []))) (Answer.Guard 0)
+  -- the accepted calls replayed with empty strips, on an empty index of equal size and binding count, give the same table and
+  -- head, and the same answers and records on the way, number for number
+  pub replay : (y : Index) → Empty y → Alike x y → after y (map quiet (accepted x cs)) ≡ after x cs
+  pub records : (y : Index) → Empty y → Alike x y → outcomes y (map quiet (accepted x cs)) ≡ acceptedOutcomes x cs
+
+-- after a call has answered 12 or 13
+pub record Withheld (x : Index) (cs : List Call) : Type 0 where
+  -- every publish is refused as poisoned and changes nothing
+  pub publishes : (c : Call) → published (after x cs) c ≡ asBefore (after x cs .head) (after x cs .table) (c .recordList) Answer.Poisoned
+  -- so is every count
+  pub counts : (binding key : ℕ) → countedIn (after x cs) binding key ≡ Answer.Poisoned
+  -- and table and head stay fixed, whatever is called
+  pub fixed : (more : List Call) → after x (cs ++ more) ≡ after x cs
+
+-- any list of calls from an empty index: right, or withheld
+pub record Demand (x : Index) (cs : List Call) : Type 0 where
+  pub right : unbroken x cs ≡ true → Right x cs
+  pub withheld : unbroken x cs ≡ false → Withheld x cs
