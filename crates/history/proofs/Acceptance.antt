@@ -24,10 +24,10 @@ use Rattle.laws.proofs.Ranks.{Tri, less, equal, more, tri}
 use Rattle.laws.proofs.Flat.{WellFormed, well-formed-parts, used-postings, postings-laid-out}
 use Rattle.laws.proofs.Answers.{refusal-unchanged, unchanged-accepts-not}
 use Rattle.laws.proofs.Checks.{isProper, publish-proper, refuses, Clear, publish-clear}
-use Rattle.laws.proofs.Undo.{not-quiet}
+use Rattle.laws.proofs.Undo.{quiet-join, not-quiet}
 use Rattle.laws.proofs.Prepare.{Ready, Cause, Stopped, TakenBack, LeftBehind}
 use Rattle.laws.proofs.Remove.{Cleared, Halted}
-use Rattle.laws.proofs.Outcomes.{start, going, leaving, sourcesGone, Published, published}
+use Rattle.laws.proofs.Outcomes.{start, going, leaving, sourcesGone, stop-not-accepted, Published, published}
 use Rattle.laws.proofs.Outcomes as outcome
 use Rattle.laws.proofs.Sets.{present-said, said-list}
 use Rattle.history.specs.Acceptance.{Acceptable, Fails, Ends, Answered, saidOf, Leaves}
@@ -99,3 +99,128 @@ module _ (capacity used : ℕ) (strip : List ℕ) (ds ss : List Numbered) where
   ends-one a b (Ends.source i h r q x) (Ends.full k f y u) = absurd (fails-not i k r q f)
   ends-one a b (Ends.source i h r q x) (Ends.undo k f u) = absurd (fails-not i k r q f)
   ends-one a b (Ends.source i h r q x) (Ends.source j k r′ q′ y) = ap (λ n. Answer.Source (numberAt ss n)) (halts-one i j q x q′ y)
+
+module _ (head : Head) (table : List ℕ) (c : Call) where
+  abbrev End′ : Answer → Type 0
+  End′ = Ends (capacity table) (head .used) (c .strip) (going head table c) (leaving head table c)
+
+  used-start : publishChecks head table c ≡ Verdict.Passes → length (start head table c) ≡ head .used
+  used-start e = used-postings head table (well-formed-parts head table (publish-clear head table c e .formed))
+
+  ready-room : publishChecks head table c ≡ Verdict.Passes → Ready (capacity table) (c .strip) (going head table c) [] 0 (start head table c) (prepared head table c) → head .used + length (going head table c) ≤ capacity table
+  ready-room e r = let u = used-start e in let k = r .room in omega arith
+
+  stopped-fails : publishChecks head table c ≡ Verdict.Passes → (s : Stopped (capacity table) (c .strip) (start head table c) (going head table c) 0 0 (length (start head table c)) (prepared head table c)) → (byteAt (c .strip) (s .at) ≡ 0 → ⊥) ⊎ (head .used + s .at ≡ capacity table) → Fails (capacity table) (head .used) (c .strip) (going head table c) (s .at)
+  stopped-fails e s f =
+      record {
+        there = s .there;
+        quiet = λ i h k. s .quiet i h (omega arith);
+        room = let u = used-start e in let r = s .room in omega arith;
+        fault = f;
+      }
+
+  -- the insertion that stopped prepare is the first to fail, and its undo is clean or not
+  stopped-ends : publishChecks head table c ≡ Verdict.Passes → Stopped (capacity table) (c .strip) (start head table c) (going head table c) 0 0 (length (start head table c)) (prepared head table c) → End′ (prepared head table c .answer)
+  stopped-ends e s = go (s .why) (s .cause) (s .undo)
+    where
+      z : 0 + s .at ≡ s .at
+      z = zero-add (s .at)
+
+      go : (why : Answer) → Cause (byteAt (c .strip) (0 + s .at)) (length (start head table c) + s .at) (capacity table) (numberAt (going head table c) (s .at)) why → TakenBack (c .strip) (0 + s .at + 1) (0 + s .at + 1 + (0 + s .at)) (start head table c) why (prepared head table c) ⊎ LeftBehind (c .strip) (0 + s .at + 1) (0 + s .at + 1 + (0 + s .at)) (numberAt (going head table c) (s .at)) (start head table c) (prepared head table c) → End′ (prepared head table c .answer)
+      go why (Cause.store b) u =
+          let b′ : byteAt (c .strip) (s .at) ≡ 0 → ⊥ = rw z at b in
+          let f = stopped-fails e s (inl b′) in
+          ⊎-elim (λ t. rw (t .answers) (Ends.store (s .at) f b′ (rw z at (t .quiet)))) (λ l. rw (l .answers) (Ends.undo (s .at) f (rw z at (l .noisy)))) u
+      go why (Cause.full b k) u =
+          let n = used-start e in
+          let f = stopped-fails e s (inr (omega arith)) in
+          ⊎-elim (λ t. rw (t .answers) (Ends.full (s .at) f (rw z at b) (rw z at (t .quiet)))) (λ l. rw (l .answers) (Ends.undo (s .at) f (rw z at (l .noisy)))) u
+
+  -- the bytes of all insertions, and then those of source removals
+  ready-quiet : (n : ℕ) → Ready (capacity table) (c .strip) (going head table c) [] 0 (start head table c) (prepared head table c) → Quiet (c .strip) (length (going head table c)) (length (going head table c) + n) → Quiet (c .strip) 0 (length (going head table c) + n)
+  ready-quiet n r q =
+      quiet-join (c .strip) 0 (length (going head table c)) (length (going head table c) + n) (λ i h k. r .quiet i h (omega arith)) q
+
+  -- every publish is answered as told
+  pub publish-answered : Answered head table c (publishOf head table c .answer)
+  publish-answered = go (publishOf head table c) (published head table c)
+    where
+      go : (o : Outcome) → Published head table c o → Answered head table c (o .answer)
+      go o (Published.refused a e k) = rw k (Answered.refused e)
+      go o (Published.taken e r l k) =
+          rw k (Answered.ended e (Ends.accepted (ready-room e r) (ready-quiet (length (leaving head table c)) r (l .quiet))))
+      go o (Published.halted e r l k) =
+          rw (k, l .answers)
+          (Answered.ended e (Ends.source (l .at) (l .there) (ready-room e r) (ready-quiet (l .at) r (l .quiet)) (l .fault)))
+      go o (Published.stopped e s k) = rw k (Answered.ended e (stopped-ends e s))
+
+  refused-one : (a b : Answer) → publishChecks head table c ≡ Verdict.Refused a → publishChecks head table c ≡ Verdict.Refused b → a ≡ b
+  refused-one a b p q = cc
+
+  refused-not : {A : Type 0} (a : Answer) → publishChecks head table c ≡ Verdict.Refused a → publishChecks head table c ≡ Verdict.Passes → A
+  refused-not a p q = let z : _≡_ {A = ℕ} 0 1 = cc in absurd (omega arith)
+
+  pub answered-one : (a b : Answer) → Answered head table c a → Answered head table c b → a ≡ b
+  answered-one a b (Answered.refused p) (Answered.refused q) = refused-one a b p q
+  answered-one a b (Answered.refused p) (Answered.ended q e) = refused-not a p q
+  answered-one a b (Answered.ended p e) (Answered.refused q) = refused-not b q p
+  answered-one a b (Answered.ended p e) (Answered.ended q f) =
+      ends-one (capacity table) (head .used) (c .strip) (going head table c) (leaving head table c) a b e f
+
+  -- THE ACCEPTANCE LAW: each answer is given exactly where its condition holds
+  pub answered-exactly : (a : Answer) → (publishOf head table c .answer ≡ a) ↔ Answered head table c a
+  answered-exactly a = (
+    (λ e. rw e at publish-answered),
+    (λ h. answered-one (publishOf head table c .answer) a publish-answered h),
+  )
+
+  -- no condition accepts but this one
+  accepted-ends : (a : Answer) → isAccepted a ≡ true → End′ a → (head .used + length (going head table c) ≤ capacity table) × Quiet (c .strip) 0 (length (going head table c) + length (leaving head table c))
+  accepted-ends a h (Ends.accepted r q) = (r, q)
+  accepted-ends a h (Ends.store k f x u) = absurd (clash false h refl)
+  accepted-ends a h (Ends.full k f x u) = absurd (clash false h refl)
+  accepted-ends a h (Ends.undo k f u) = absurd (clash false h refl)
+  accepted-ends a h (Ends.source j k r q x) = absurd (clash false h refl)
+
+  -- a publish is accepted exactly when no check applies, there is room, and every byte that it reads is 0
+  pub accepted-exactly : (isAccepted (publishOf head table c .answer) ≡ true) ↔ Acceptable head table c
+  accepted-exactly = (
+    (λ h. go (publishOf head table c .answer) h publish-answered),
+    (λ k. rw (answered-exactly _ .1 (Answered.ended (k .passes) (Ends.accepted (k .room) (k .quiet))))),
+  )
+    where
+      go : (a : Answer) → isAccepted a ≡ true → Answered head table c a → Acceptable head table c
+      go a h (Answered.refused p) =
+          absurd
+          (clash (isAccepted a) h
+          (unchanged-accepts-not a (refusal-unchanged a (refuses (publishChecks head table c) a (publish-proper head table c) p))))
+      go a h (Answered.ended p e) =
+          let r = accepted-ends a h e in
+          record { passes = p; room = r .0; quiet = r .1 }
+
+  -- and then its whole outcome is this
+  pub acceptable-outcome : Acceptable head table c → publishOf head table c ≡ outcome.accepted head table c
+  acceptable-outcome k = go (publishOf head table c) (accepted-exactly .1 k) (published head table c)
+    where
+      go : (o : Outcome) → isAccepted (o .answer) ≡ true → Published head table c o → o ≡ outcome.accepted head table c
+      go o h (Published.refused a e l) = refused-not a e (k .passes)
+      go o h (Published.taken e r l m) = m
+      go o h (Published.halted e r l m) = absurd (clash (isAccepted (o .answer)) h (rw (m, l .answers)))
+      go o h (Published.stopped e s m) =
+          absurd (clash (isAccepted (o .answer)) h (rw m (stop-not-accepted head table c s)))
+
+  -- (postings and destinations) less sources, as a set and as the one ascending list
+  pub accepted-leaves : Acceptable head table c → Leaves head table c (publishOf head table c)
+  accepted-leaves k =
+      rw (acceptable-outcome k)
+      (record {
+        answer = refl;
+        bindings = refl;
+        poisoned = refl;
+        recordList = refl;
+        set = λ p. rw (postings-laid-out (length table) (takenAway (leaving head table c) (added (going head table c) (start head table c)))) (present-said p (going head table c) (leaving head table c) (start head table c));
+        list = λ l h f. let e = said-list (going head table c) (leaving head table c) (start head table c) l sorted h f in (ap length e, ap (laidOut (length table)) e);
+      })
+    where
+      sorted : ascending (start head table c) ≡ true
+      sorted = well-formed-parts head table (publish-clear head table c (k .passes) .formed) .sorted

@@ -98,8 +98,19 @@ pub record Right (x : Index) (cs : List Call) : Type 0 where
   pub replay : (y : Index) → Empty y → Alike x y → after y (map quiet (accepted x cs)) ≡ after x cs
   pub records : (y : Index) → Empty y → Alike x y → outcomes y (map quiet (accepted x cs)) ≡ acceptedOutcomes x cs
 
+-- the first call that answers 12 or 13: until it the history was right, and no later call is accepted
+pub record Break (x : Index) (cs : List Call) : Type 0 where
+  pub before : List Call
+  pub call : Call
+  pub later : List Call
+  pub whole : cs ≡ before ++ call ∷ later
+  pub fatal : poisons (published (after x before) call .answer) ≡ true
+  pub until : Right x before
+  pub taken : accepted x cs ≡ accepted x before
+
 -- after a call has answered 12 or 13
 pub record Withheld (x : Index) (cs : List Call) : Type 0 where
+  pub break : Break x cs
   -- every publish is refused as poisoned and changes nothing
   pub publishes : (c : Call) → published (after x cs) c ≡ asBefore (after x cs .head) (after x cs .table) (c .recordList) Answer.Poisoned
   -- so is every count

@@ -17,13 +17,14 @@ use Rattle.rules.specs.Answers.{isAccepted, poisons, settled}
 use Rattle.rules.specs.Checks.{Call, changesOf, prepareChecks, rollbackChecks, removalChecks, publishChecks}
 use Rattle.rules.specs.Publication.{Undone, undoing, Stage, preparing, removing, rolledBack, thenSources}
 use Rattle.rules.specs.Calls.{Outcome, asBefore, decided, headAfter, shown, recordAfter, prepared, prepareOf, rollbackOf, removalOf, publishOf}
-use Rattle.laws.specs.Words.{isUnchanged}
+use Rattle.laws.specs.Words.{isUnchanged, Stable}
 use Rattle.laws.proofs.Tests.{by-cases, clash}
-use Rattle.laws.proofs.Flat.{WellFormed, well-formed-parts, Sound, sound-postings, well-formed-laid-out}
+use Rattle.laws.proofs.Flat.{WellFormed, well-formed-parts, Sound, sound-postings, well-formed-laid-out, length-laid-out}
 use Rattle.laws.proofs.Undo.{UndoClean, UndoFailed, undo-runs, undo-sound}
 use Rattle.laws.proofs.Prepare.{Ready, Stopped, TakenBack, LeftBehind, prepare-sound}
 use Rattle.laws.proofs.Remove.{Cleared, Halted, remove-runs, remove-sound}
-use Rattle.laws.proofs.Checks.{Clear, prepare-clear, publish-clear, rollback-formed, removal-formed}
+use Rattle.laws.proofs.Checks.{isProper, prepare-proper, rollback-proper, removal-proper, publish-proper, Clear, prepare-clear, publish-clear, rollback-formed, removal-formed}
+use Rattle.laws.proofs.Answers.{refusal-unchanged, unchanged-poisons-not}
 use Rattle.laws.proofs.Outcomes.{shown-same, cause-poisons-not, start, going, leaving, recordedBack, undid, removedAlone, prepared-runs, Published, published, Prepares, prepares, RollsBack, rolls-back, Removes, removes}
 
 -- an outcome as before has its own answer
@@ -80,17 +81,7 @@ module _ (head : Head) (table : List ℕ) (c : Call) where
       go o (Removes.cleared e r k) u = not-unchanged (o .answer) _ u (ap (λ (x : Outcome). x .answer) k ∙ r .answers) refl
       go o (Removes.halted e r k) u = not-unchanged (o .answer) _ u (ap (λ (x : Outcome). x .answer) k ∙ r .answers) refl
 
-  -- sound postings shown in a well-formed table are well formed
-  shown-well-formed : (s : Stage) → wellFormed head table ≡ true → Sound (head .bindings) (capacity table) (s .postings) → wellFormed (headAfter head (s .answer) (s .postings)) (laidOut (length table) (s .postings)) ≡ true
-  shown-well-formed s h k =
-      let w = well-formed-parts head table h in
-      well-formed-laid-out head (headAfter head (s .answer) (s .postings)) table (s .postings) w k refl refl
-      (by-cases (λ (n : ℕ). n ≤ 1) (poisons (s .answer)) (λ e. omega arith) (λ e. w .flag))
-
-  decided-well-formed : (v : Verdict) (o : Outcome) → wellFormed head table ≡ true → (v ≡ Verdict.Passes → wellFormed (o .head) (o .table) ≡ true) → wellFormed (decided v (asBefore head table (c .recordList)) o .head) (decided v (asBefore head table (c .recordList)) o .table) ≡ true
-  decided-well-formed Verdict.Passes o h f = f refl
-  decided-well-formed (Verdict.Refused a) o h f = h
-
+  -- the postings that each call shows are sound
   start-sound : wellFormed head table ≡ true → Sound (head .bindings) (capacity table) (start head table c)
   start-sound h = sound-postings head table (well-formed-parts head table h)
 
@@ -98,31 +89,76 @@ module _ (head : Head) (table : List ℕ) (c : Call) where
   prepared-sound k =
       prepare-sound (head .bindings) (capacity table) (c .strip) (going head table c) [] 0 (start head table c) (k .bound) (start-sound (k .formed))
 
+  prepare-shows : prepareChecks head table c ≡ Verdict.Passes → Sound (head .bindings) (capacity table) (prepared head table c .postings)
+  prepare-shows e = prepared-sound (prepare-clear head table c e)
+
+  rollback-shows : rollbackChecks head table c ≡ Verdict.Passes → Sound (head .bindings) (capacity table) (undid head table c .postings)
+  rollback-shows e =
+      undo-sound (head .bindings) (capacity table) (c .strip) (recordedBack head table c) Verdict.Passes 0 (start head table c)
+      (start-sound (rollback-formed head table c e .0))
+
+  removal-shows : removalChecks head table c ≡ Verdict.Passes → Sound (head .bindings) (capacity table) (removedAlone head table c .postings)
+  removal-shows e =
+      remove-sound (c .strip) (Answer.Accepted 0) (head .bindings) (capacity table) (leaving head table c) 0 (start head table c)
+      (start-sound (removal-formed head table c e .0))
+
+  publish-shows : publishChecks head table c ≡ Verdict.Passes → Sound (head .bindings) (capacity table) (thenSources (c .strip) (leaving head table c) (prepared head table c) .postings)
+  publish-shows e =
+      let s = prepared-sound (publish-clear head table c e) in
+      by-cases (λ (t : Stage). Sound (head .bindings) (capacity table) (t .postings)) (isAccepted (prepared head table c .answer))
+      (λ a. remove-sound (c .strip) _ (head .bindings) (capacity table) (leaving head table c) _ _ s)
+      (λ a. s)
+
+  -- so a well-formed table stays well formed
+  decided-well-formed : (v : Verdict) (list : List ℕ) (s : Stage) → wellFormed head table ≡ true → (v ≡ Verdict.Passes → Sound (head .bindings) (capacity table) (s .postings)) → wellFormed (decided v (asBefore head table (c .recordList)) (shown head table list s) .head) (decided v (asBefore head table (c .recordList)) (shown head table list s) .table) ≡ true
+  decided-well-formed (Verdict.Refused a) list s h f = h
+  decided-well-formed Verdict.Passes list s h f =
+      let w = well-formed-parts head table h in
+      well-formed-laid-out head (headAfter head (s .answer) (s .postings)) table (s .postings) w (f refl) refl refl
+      (by-cases (λ (n : ℕ). n ≤ 1) (poisons (s .answer)) (λ e. omega arith) (λ e. w .flag))
+
   pub prepare-well-formed : wellFormed head table ≡ true → wellFormed (prepareOf head table c .head) (prepareOf head table c .table) ≡ true
   unfolding prepareOf
-  prepare-well-formed h =
-      decided-well-formed (prepareChecks head table c) _ h λ e. shown-well-formed (prepared head table c) h (prepared-sound (prepare-clear head table c e))
+  prepare-well-formed h = decided-well-formed (prepareChecks head table c) _ (prepared head table c) h prepare-shows
 
   pub rollback-well-formed : wellFormed head table ≡ true → wellFormed (rollbackOf head table c .head) (rollbackOf head table c .table) ≡ true
   unfolding rollbackOf
-  rollback-well-formed h =
-      decided-well-formed (rollbackChecks head table c) _ h λ e.
-      shown-well-formed (rolledBack (undid head table c)) h
-      (undo-sound (head .bindings) (capacity table) (c .strip) (recordedBack head table c) Verdict.Passes 0 (start head table c) (start-sound h))
+  rollback-well-formed h = decided-well-formed (rollbackChecks head table c) _ (rolledBack (undid head table c)) h rollback-shows
 
   pub removal-well-formed : wellFormed head table ≡ true → wellFormed (removalOf head table c .head) (removalOf head table c .table) ≡ true
   unfolding removalOf
-  removal-well-formed h =
-      decided-well-formed (removalChecks head table c) _ h λ e.
-      shown-well-formed (removedAlone head table c) h
-      (remove-sound (c .strip) (Answer.Accepted 0) (head .bindings) (capacity table) (leaving head table c) 0 (start head table c) (start-sound h))
+  removal-well-formed h = decided-well-formed (removalChecks head table c) _ (removedAlone head table c) h removal-shows
 
   pub publish-well-formed : wellFormed head table ≡ true → wellFormed (publishOf head table c .head) (publishOf head table c .table) ≡ true
   unfolding publishOf
   publish-well-formed h =
-      decided-well-formed (publishChecks head table c) _ h λ e.
-      let s = prepared-sound (publish-clear head table c e) in
-      shown-well-formed (thenSources (c .strip) (leaving head table c) (prepared head table c)) h
-      (by-cases (λ (t : Stage). Sound (head .bindings) (capacity table) (t .postings)) (isAccepted (prepared head table c .answer))
-      (λ a. remove-sound (c .strip) _ (head .bindings) (capacity table) (leaving head table c) _ _ s)
-      (λ a. s))
+      decided-well-formed (publishChecks head table c) _ (thenSources (c .strip) (leaving head table c) (prepared head table c)) h publish-shows
+
+  -- and binding count and size stay at every answer, and the poison flag at all but 12 and 13
+  decided-stable : (v : Verdict) (list : List ℕ) (s : Stage) → isProper v ≡ true → (v ≡ Verdict.Passes → Sound (head .bindings) (capacity table) (s .postings)) → Stable head table (decided v (asBefore head table (c .recordList)) (shown head table list s))
+  decided-stable (Verdict.Refused a) list s h f =
+      record { bindings = refl; flag = rw (unchanged-poisons-not a (refusal-unchanged a h)); size = refl }
+  decided-stable Verdict.Passes list s h f =
+      record {
+        bindings = refl;
+        flag = refl;
+        size = length-laid-out (length table) (s .postings) (let r = f refl .room in omega arith);
+      }
+
+  pub prepare-stable : Stable head table (prepareOf head table c)
+  unfolding prepareOf
+  prepare-stable = decided-stable (prepareChecks head table c) _ (prepared head table c) (prepare-proper head table c) prepare-shows
+
+  pub rollback-stable : Stable head table (rollbackOf head table c)
+  unfolding rollbackOf
+  rollback-stable =
+      decided-stable (rollbackChecks head table c) _ (rolledBack (undid head table c)) (rollback-proper head table c) rollback-shows
+
+  pub removal-stable : Stable head table (removalOf head table c)
+  unfolding removalOf
+  removal-stable = decided-stable (removalChecks head table c) _ (removedAlone head table c) (removal-proper head table c) removal-shows
+
+  pub publish-stable : Stable head table (publishOf head table c)
+  unfolding publishOf
+  publish-stable =
+      decided-stable (publishChecks head table c) _ (thenSources (c .strip) (leaving head table c) (prepared head table c)) (publish-proper head table c) publish-shows

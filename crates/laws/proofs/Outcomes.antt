@@ -70,7 +70,7 @@ module _ (head : Head) (table : List ℕ) (c : Call) where
       let r = w .room in
       prepare-runs (capacity table) (c .strip) start going [] 0 start (k .fresh) refl (omega arith)
 
-  stop-not-accepted : Stopped (capacity table) (c .strip) start going 0 0 (length start) (prepared head table c) → isAccepted (prepared head table c .answer) ≡ false
+  pub stop-not-accepted : Stopped (capacity table) (c .strip) start going 0 0 (length start) (prepared head table c) → isAccepted (prepared head table c .answer) ≡ false
   stop-not-accepted s = ⊎-elim (λ b. rw (b .answers) (other (s .cause))) (λ b. rw (b .answers)) (s .undo)
     where
       other : Cause (byteAt (c .strip) (0 + s .at)) (length start + s .at) (capacity table) (numberAt going (s .at)) (s .why) → isAccepted (s .why) ≡ false

@@ -3,14 +3,16 @@
 use Prim.Native.Nat.{ℕ, _<_, _≤_}
 use mathlib.Core.Path.{_≡_}
 use mathlib.Core.List.{List, [], _∷_}
-use mathlib.Core.Bool.{Bool, true, false, _&&_, _||_}
-use lib.ListN.{getD}
+use mathlib.Core.Bool.{Bool, true, false, cond, _&&_, _||_}
+use lib.ListN.{length, getD}
 use lib.Dec.{eqb, leb}
 use Rattle.rules.specs.declared.Posting.{Posting}
+use Rattle.rules.specs.declared.Head.{Head}
 use Rattle.rules.specs.declared.Answer.{Answer}
-use Rattle.rules.specs.Answers.{toldOf}
+use Rattle.rules.specs.Answers.{toldOf, poisons}
 use Rattle.rules.specs.Postings.{present, inserted, removed}
 use Rattle.rules.specs.Orders.{Numbered, byteAt}
+use Rattle.rules.specs.Calls.{Outcome}
 
 -- the list with these destinations
 unfoldable pub added : List Numbered → List Posting → List Posting
@@ -49,3 +51,9 @@ isRefusal a = (leb 1 (toldOf a .answer) && leb (toldOf a .answer) 9) || eqb (tol
 -- 1 to 11 and 14: the answers that leave everything as before
 abbrev pub isUnchanged : Answer → Bool
 isUnchanged a = (leb 1 (toldOf a .answer) && leb (toldOf a .answer) 11) || eqb (toldOf a .answer) 14
+
+-- upstream's stable, and the table's size: no answer touches the binding count, and only 12 and 13 touch the poison flag
+pub record Stable (head : Head) (table : List ℕ) (o : Outcome) : Type 0 where
+  pub bindings : o .head .bindings ≡ head .bindings
+  pub flag : o .head .poisoned ≡ cond (poisons (o .answer)) 1 (head .poisoned)
+  pub size : length (o .table) ≡ length table

@@ -1,0 +1,329 @@
+-- Demand 3. Each publish either leaves the index as it was, or is accepted and leaves what it says, or breaks it; by induction
+-- over the calls that makes the history right until it is withheld.
+use Prim.Native.Nat.{ℕ, zero, suc, _+_, _*_, _≤_, _<_}
+use native.Mathlib.Omega.{arith}
+use mathlib.Core.Path.{_≡_, refl, sym, ap, _∙_}
+use mathlib.Core.List.{List, [], _∷_, _++_, map}
+use mathlib.Core.Bool.{Bool, true, false, cond, not, _&&_}
+use mathlib.Core.Logic.{_⊎_, inl, inr, ⊎-elim}
+use lib.ListN.{length}
+use lib.Dec.{eqb, ltb}
+use borrow.Author.Tests.{eq-eqb, ne-eqb, not-true}
+use Rattle.rules.specs.declared.Posting.{Posting}
+use Rattle.rules.specs.declared.Head.{Head}
+use Rattle.rules.specs.declared.Answer.{Answer}
+use Rattle.rules.specs.declared.Verdict.{Verdict}
+use Rattle.rules.specs.Postings.{every, counted}
+use Rattle.rules.specs.Table.{capacity, postings, laidOut, wellFormed}
+use Rattle.rules.specs.Orders.{properStrip, destinations, sources, numbersOf}
+use Rattle.rules.specs.Answers.{isAccepted, poisons, settled}
+use Rattle.rules.specs.Checks.{Call, changesOf, must, orElse, firstRefusal, tableCheck, poisonCheck, listCheck, stripCheck, roomCheck, guardCheck, twiceCheck, presentCheck, overlapCheck, publishChecks, countChecks}
+use Rattle.rules.specs.Calls.{Outcome, asBefore, decided, headAfter, shown, written, publishOf, countOf}
+use Rattle.laws.specs.Words.{added, takenAway, Quiet, isUnchanged}
+use Rattle.laws.proofs.Tests.{clash, and-left, and-right}
+use Rattle.laws.proofs.Flat.{WellFormed, well-formed-parts, used-postings, laid-out-same, postings-laid-out}
+use Rattle.laws.proofs.Answers.{Kind, kind}
+use Rattle.laws.proofs.Checks.{first-passes, rest-passes, cons-passes}
+use Rattle.laws.proofs.Calls.{publish-as-before, publish-well-formed, publish-stable}
+use Rattle.laws.proofs.Outcomes as outcome
+use Rattle.history.specs.Acceptance.{Acceptable}
+use Rattle.history.specs.History.{Index, published, countedIn, left, after, outcomes, unbroken, accepted, acceptedOutcomes, said, holding, quiet, Empty, Alike, Right, Withheld, Demand}
+use Rattle.history.proofs.Acceptance.{accepted-exactly, acceptable-outcome}
+
+-- well formed and unpoisoned: what every call but 12 and 13 leaves
+pub record Live (x : Index) : Type 0 where
+  pub formed : wellFormed (x .head) (x .table) ≡ true
+  pub healthy : x .head .poisoned ≡ 0
+
+-- well formed and poisoned
+pub record Spoilt (x : Index) : Type 0 where
+  pub formed : wellFormed (x .head) (x .table) ≡ true
+  pub flagged : x .head .poisoned ≡ 1
+
+abbrev pub postingsIn : Index → List Posting
+postingsIn x = postings (x .head .used) (x .table)
+
+-- a live index is told by its postings
+live-holding : (x : Index) → Live x → x ≡ holding x (postingsIn x)
+live-holding x l =
+    let w = well-formed-parts (x .head) (x .table) (l .formed) in
+    let u = sym (used-postings (x .head) (x .table) w) in
+    let t = sym (laid-out-same (x .head) (x .table) w) in
+    λ i. record { head = record { bindings = x .head .bindings; used = u i; poisoned = l .healthy i }; table = t i }
+
+-- one publish: the index stays; or the call is accepted; or it answers 12 or 13
+pub data Step (x : Index) (c : Call) : Type 0 where
+  stays : left (published x c) ≡ x → isAccepted (published x c .answer) ≡ false → poisons (published x c .answer) ≡ false → Step x c
+  takes : Acceptable (x .head) (x .table) c → isAccepted (published x c .answer) ≡ true → poisons (published x c .answer) ≡ false → Step x c
+  breaks : isAccepted (published x c .answer) ≡ false → poisons (published x c .answer) ≡ true → Step x c
+
+pub step : (x : Index) (c : Call) → Step x c
+step x c = go (published x c .answer) refl (kind (published x c .answer))
+  where
+    go : (a : Answer) → published x c .answer ≡ a → Kind a → Step x c
+    go a e (Kind.taken n) = takes (accepted-exactly (x .head) (x .table) c .0 (rw e)) (rw e) (rw e)
+    go a e (Kind.kept u n p) =
+        let o = publish-as-before (x .head) (x .table) c (rw e u) in
+        stays (ap left o) (rw e n) (rw e p)
+    go a e (Kind.broken u n p) = breaks (rw e n) (rw e p)
+
+-- an index that a publish did not break is live; one that it broke is spoilt
+live-next : (x : Index) (c : Call) → Live x → poisons (published x c .answer) ≡ false → Live (left (published x c))
+live-next x c l h =
+    record {
+      formed = publish-well-formed (x .head) (x .table) c (l .formed);
+      healthy = publish-stable (x .head) (x .table) c .flag ∙ rw h (l .healthy);
+    }
+
+spoilt-next : (x : Index) (c : Call) → wellFormed (x .head) (x .table) ≡ true → poisons (published x c .answer) ≡ true → Spoilt (left (published x c))
+spoilt-next x c f h =
+    record {
+      formed = publish-well-formed (x .head) (x .table) c f;
+      flagged = publish-stable (x .head) (x .table) c .flag ∙ rw h;
+    }
+
+-- size and binding count stay, so what holds postings here holds them there
+holding-next : (x : Index) (c : Call) (ps : List Posting) → holding (left (published x c)) ps ≡ holding x ps
+holding-next x c ps =
+    let s = publish-stable (x .head) (x .table) c in
+    rw (s .bindings, s .size)
+
+-- an accepted call leaves the postings that it says
+postings-next : (x : Index) (c : Call) → Acceptable (x .head) (x .table) c → postingsIn (left (published x c)) ≡ takenAway (sources (changesOf c)) (added (destinations (changesOf c)) (postingsIn x))
+postings-next x c a =
+    ap (λ (o : Outcome). postings (o .head .used) (o .table)) (acceptable-outcome (x .head) (x .table) c a)
+    ∙ postings-laid-out (length (x .table)) (takenAway (sources (changesOf c)) (added (destinations (changesOf c)) (postingsIn x)))
+
+unbroken-first : (x : Index) (c : Call) (cs : List Call) → unbroken x (c ∷ cs) ≡ true → poisons (published x c .answer) ≡ false
+unfolding unbroken
+unbroken-first x c cs h =
+    not-true (poisons (published x c .answer)) (and-left (not (poisons (published x c .answer))) (unbroken (left (published x c)) cs) h)
+
+unbroken-rest : (x : Index) (c : Call) (cs : List Call) → unbroken x (c ∷ cs) ≡ true → unbroken (left (published x c)) cs ≡ true
+unfolding unbroken
+unbroken-rest x c cs h =
+    and-right (not (poisons (published x c .answer))) (unbroken (left (published x c)) cs) h
+
+-- from any live index: an unbroken history leaves it live, with what the accepted calls say
+live-after : (x : Index) (cs : List Call) → Live x → unbroken x cs ≡ true → Live (after x cs)
+unfolding after
+live-after x [] l h = l
+live-after x (c ∷ cs) l h =
+    live-after (left (published x c)) cs (live-next x c l (unbroken-first x c cs h)) (unbroken-rest x c cs h)
+
+bindings-after : (x : Index) (cs : List Call) → after x cs .head .bindings ≡ x .head .bindings
+unfolding after
+bindings-after x [] = refl
+bindings-after x (c ∷ cs) = bindings-after (left (published x c)) cs ∙ publish-stable (x .head) (x .table) c .bindings
+
+pub said-after : (x : Index) (cs : List Call) → Live x → unbroken x cs ≡ true → after x cs ≡ holding x (said (accepted x cs) (postingsIn x))
+unfolding after accepted said
+said-after x [] l h = live-holding x l
+said-after x (c ∷ cs) l h = go (step x c) (said-after (left (published x c)) cs (live-next x c l (unbroken-first x c cs h)) (unbroken-rest x c cs h))
+  where
+    go : Step x c → after (left (published x c)) cs ≡ holding (left (published x c)) (said (accepted (left (published x c)) cs) (postingsIn (left (published x c)))) → after (left (published x c)) cs ≡ holding x (said (cond (isAccepted (published x c .answer)) (c ∷ accepted (left (published x c)) cs) (accepted (left (published x c)) cs)) (postingsIn x))
+    go (stays e n p) ih = rw n (ih ∙ (holding-next x c _ ∙ ap (λ (y : Index). holding x (said (accepted (left (published x c)) cs) (postingsIn y))) e))
+    go (takes a n p) ih = rw n (ih ∙ (holding-next x c _ ∙ ap (λ l. holding x (said (accepted (left (published x c)) cs) l)) (postings-next x c a)))
+    go (breaks n p) ih = absurd (clash (poisons (published x c .answer)) p (unbroken-first x c cs h))
+
+-- with an empty strip an accepted call is accepted just so
+strip-passes : (c : Call) → stripCheck (quiet c) ≡ Verdict.Passes
+unfolding stripCheck properStrip every
+strip-passes c = refl
+
+quiet-passes : (head : Head) (table : List ℕ) (c : Call) → publishChecks head table c ≡ Verdict.Passes → publishChecks head table (quiet c) ≡ Verdict.Passes
+unfolding publishChecks listCheck roomCheck guardCheck twiceCheck presentCheck overlapCheck
+quiet-passes head table c h1 =
+    let h2 = rest-passes _ _ h1 in
+    let h3 = rest-passes _ _ h2 in
+    let h4 = rest-passes _ _ h3 in
+    let h5 = rest-passes _ _ h4 in
+    cons-passes _ _ (first-passes _ _ h1)
+    (cons-passes _ _ (first-passes _ _ h2) (cons-passes _ _ (first-passes _ _ h3) (cons-passes _ _ (strip-passes c) h5)))
+
+quiet-acceptable : (head : Head) (table : List ℕ) (c : Call) → Acceptable head table c → Acceptable head table (quiet c)
+quiet-acceptable head table c a =
+    record { passes = quiet-passes head table c (a .passes); room = a .room; quiet = λ i h k. refl }
+
+pub quiet-same : (x : Index) (c : Call) → Acceptable (x .head) (x .table) c → published x (quiet c) ≡ published x c
+quiet-same x c a =
+    acceptable-outcome (x .head) (x .table) (quiet c) (quiet-acceptable (x .head) (x .table) c a)
+    ∙ sym (acceptable-outcome (x .head) (x .table) c a)
+
+pub replay-after : (x : Index) (cs : List Call) → unbroken x cs ≡ true → after x (map quiet (accepted x cs)) ≡ after x cs
+unfolding after accepted
+replay-after x [] h = refl
+replay-after x (c ∷ cs) h = go (step x c) (replay-after (left (published x c)) cs (unbroken-rest x c cs h))
+  where
+    go : Step x c → after (left (published x c)) (map quiet (accepted (left (published x c)) cs)) ≡ after (left (published x c)) cs → after x (map quiet (cond (isAccepted (published x c .answer)) (c ∷ accepted (left (published x c)) cs) (accepted (left (published x c)) cs))) ≡ after (left (published x c)) cs
+    go (stays e n p) ih = rw n (ap (λ (y : Index). after y (map quiet (accepted (left (published x c)) cs))) (sym e) ∙ ih)
+    go (takes a n p) ih =
+        rw n (ap (λ (o : Outcome). after (left o) (map quiet (accepted (left (published x c)) cs))) (quiet-same x c a) ∙ ih)
+    go (breaks n p) ih = absurd (clash (poisons (published x c .answer)) p (unbroken-first x c cs h))
+
+pub replay-outcomes : (x : Index) (cs : List Call) → unbroken x cs ≡ true → outcomes x (map quiet (accepted x cs)) ≡ acceptedOutcomes x cs
+unfolding outcomes accepted acceptedOutcomes
+replay-outcomes x [] h = refl
+replay-outcomes x (c ∷ cs) h = go (step x c) (replay-outcomes (left (published x c)) cs (unbroken-rest x c cs h))
+  where
+    go : Step x c → outcomes (left (published x c)) (map quiet (accepted (left (published x c)) cs)) ≡ acceptedOutcomes (left (published x c)) cs → outcomes x (map quiet (cond (isAccepted (published x c .answer)) (c ∷ accepted (left (published x c)) cs) (accepted (left (published x c)) cs))) ≡ cond (isAccepted (published x c .answer)) (published x c ∷ acceptedOutcomes (left (published x c)) cs) (acceptedOutcomes (left (published x c)) cs)
+    go (stays e n p) ih = rw n (ap (λ (y : Index). outcomes y (map quiet (accepted (left (published x c)) cs))) (sym e) ∙ ih)
+    go (takes a n p) ih = rw (n, quiet-same x c a) (ap (λ l. published x c ∷ l) ih)
+    go (breaks n p) ih = absurd (clash (poisons (published x c .answer)) p (unbroken-first x c cs h))
+
+-- a count on a live index is its own number, or 6 for a binding that is not below the count
+pub live-count : (x : Index) → Live x → (binding key : ℕ) → countedIn x binding key ≡ cond (ltb binding (x .head .bindings)) (Answer.Accepted (counted binding key (postingsIn x))) (Answer.Guard 0)
+unfolding countOf countChecks firstRefusal tableCheck poisonCheck
+live-count x l binding key =
+    rw (l .formed, eq-eqb (x .head .poisoned) 0 (l .healthy)) (go (ltb binding (x .head .bindings)))
+  where
+    go : (b : Bool) → settled (orElse (must b (Answer.Guard 0)) Verdict.Passes) (Answer.Accepted (counted binding key (postingsIn x))) ≡ cond b (Answer.Accepted (counted binding key (postingsIn x))) (Answer.Guard 0)
+    go true = refl
+    go false = refl
+
+-- a spoilt index refuses everything with 2 and stays
+flag-set : (x : Index) → Spoilt x → eqb (x .head .poisoned) 0 ≡ false
+flag-set x s = ne-eqb (x .head .poisoned) 0 λ e. let f = s .flagged in omega arith
+
+spoilt-checks : (x : Index) → Spoilt x → (c : Call) → publishChecks (x .head) (x .table) c ≡ Verdict.Refused Answer.Poisoned
+unfolding publishChecks firstRefusal tableCheck poisonCheck
+spoilt-checks x s c = rw (s .formed, flag-set x s)
+
+pub spoilt-publish : (x : Index) → Spoilt x → (c : Call) → published x c ≡ asBefore (x .head) (x .table) (c .recordList) Answer.Poisoned
+unfolding publishOf
+spoilt-publish x s c = rw (spoilt-checks x s c)
+
+pub spoilt-count : (x : Index) → Spoilt x → (binding key : ℕ) → countedIn x binding key ≡ Answer.Poisoned
+unfolding countOf countChecks firstRefusal tableCheck poisonCheck
+spoilt-count x s binding key = rw (s .formed, flag-set x s)
+
+pub spoilt-after : (x : Index) → Spoilt x → (cs : List Call) → after x cs ≡ x
+unfolding after
+spoilt-after x s [] = refl
+spoilt-after x s (c ∷ cs) = ap (λ (o : Outcome). after (left o) cs) (spoilt-publish x s c) ∙ spoilt-after x s cs
+
+after-append : (x : Index) (cs more : List Call) → after x (cs ++ more) ≡ after (after x cs) more
+unfolding after
+after-append x [] more = refl
+after-append x (c ∷ cs) more = after-append (left (published x c)) cs more
+
+-- a broken history has spoilt the index
+pub broken-after : (x : Index) (cs : List Call) → wellFormed (x .head) (x .table) ≡ true → unbroken x cs ≡ false → Spoilt (after x cs)
+unfolding after unbroken
+broken-after x [] f h = absurd (clash true refl h)
+broken-after x (c ∷ cs) f h =
+    go (poisons (published x c .answer)) refl h (broken-after (left (published x c)) cs (publish-well-formed (x .head) (x .table) c f))
+  where
+    go : (b : Bool) → poisons (published x c .answer) ≡ b → (not b && unbroken (left (published x c)) cs) ≡ false → (unbroken (left (published x c)) cs ≡ false → Spoilt (after (left (published x c)) cs)) → Spoilt (after (left (published x c)) cs)
+    go true e k ih = let s = spoilt-next x c f e in rw (spoilt-after (left (published x c)) s cs) s
+    go false e k ih = ih k
+
+-- an empty index
+empty-live : (x : Index) → Empty x → Live x
+empty-live x e = record { formed = e .formed; healthy = e .healthy }
+
+empty-postings : (x : Index) → Empty x → postingsIn x ≡ []
+empty-postings x e = rw (e .unused)
+
+-- all empty indexes of one size and binding count are one
+empty-one : (x y : Index) → Empty x → Empty y → Alike x y → y ≡ x
+empty-one x y ex ey a =
+    let hx : x ≡ holding x [] = live-holding x (empty-live x ex) ∙ ap (holding x) (empty-postings x ex) in
+    let hy : y ≡ holding y [] = live-holding y (empty-live y ey) ∙ ap (holding y) (empty-postings y ey) in
+    let k : holding y [] ≡ holding x [] = rw (a .size, a .bindings) in
+    hy ∙ (k ∙ sym hx)
+
+-- nothing is accepted by a spoilt index
+none-taken : (x : Index) → Spoilt x → (cs : List Call) → accepted x cs ≡ []
+unfolding accepted
+none-taken x s [] = refl
+none-taken x s (c ∷ cs) = rw (spoilt-publish x s c) (none-taken x s cs)
+
+-- a broken history is an unbroken one up to its first 12 or 13
+record Cut (x : Index) (cs : List Call) : Type 0 where
+  before : List Call
+  call : Call
+  later : List Call
+  whole : cs ≡ before ++ call ∷ later
+  fatal : poisons (published (after x before) call .answer) ≡ true
+  sound : unbroken x before ≡ true
+  taken : accepted x cs ≡ accepted x before
+
+cut : (x : Index) (cs : List Call) → wellFormed (x .head) (x .table) ≡ true → unbroken x cs ≡ false → Cut x cs
+unfolding after unbroken accepted
+cut x [] f h = absurd (clash true refl h)
+cut x (c ∷ cs) f h = go (step x c) (cut (left (published x c)) cs (publish-well-formed (x .head) (x .table) c f))
+  where
+    here : isAccepted (published x c .answer) ≡ false → poisons (published x c .answer) ≡ true → Cut x (c ∷ cs)
+    here n p =
+        record {
+          before = [];
+          call = c;
+          later = cs;
+          whole = refl;
+          fatal = p;
+          sound = refl;
+          taken = rw n (none-taken (left (published x c)) (spoilt-next x c f p) cs);
+        }
+
+    further : poisons (published x c .answer) ≡ false → Cut (left (published x c)) cs → Cut x (c ∷ cs)
+    further p k =
+        record {
+          before = c ∷ k .before;
+          call = k .call;
+          later = k .later;
+          whole = ap (λ l. c ∷ l) (k .whole);
+          fatal = k .fatal;
+          sound = rw (p, k .sound);
+          taken = rw (k .taken);
+        }
+
+    rest : poisons (published x c .answer) ≡ false → unbroken (left (published x c)) cs ≡ false
+    rest p = rw p at h
+
+    go : Step x c → (unbroken (left (published x c)) cs ≡ false → Cut (left (published x c)) cs) → Cut x (c ∷ cs)
+    go (stays e n p) ih = further p (ih (rest p))
+    go (takes a n p) ih = further p (ih (rest p))
+    go (breaks n p) ih = here n p
+
+module _ (x : Index) (e : Empty x) where
+  now : (cs : List Call) → unbroken x cs ≡ true → after x cs ≡ holding x (said (accepted x cs) [])
+  now cs h = said-after x cs (empty-live x e) h ∙ ap (λ l. holding x (said (accepted x cs) l)) (empty-postings x e)
+
+  right-until : (cs : List Call) → unbroken x cs ≡ true → Right x cs
+  right-until cs h =
+      record {
+        table = now cs h;
+        counts = λ binding key.
+            live-count (after x cs) (live-after x cs (empty-live x e) h) binding key
+            ∙ rw (
+              bindings-after x cs,
+              ap postingsIn (now cs h) ∙ postings-laid-out (length (x .table)) (said (accepted x cs) []),
+            );
+        replay = λ y ey a. rw (empty-one x y e ey a) (replay-after x cs h);
+        records = λ y ey a. rw (empty-one x y e ey a) (replay-outcomes x cs h);
+      }
+
+  withheld-after : (cs : List Call) → unbroken x cs ≡ false → Withheld x cs
+  withheld-after cs h =
+      let s = broken-after x cs (e .formed) h in
+      let k = cut x cs (e .formed) h in
+      record {
+        break =
+            record {
+              before = k .before;
+              call = k .call;
+              later = k .later;
+              whole = k .whole;
+              fatal = k .fatal;
+              until = right-until (k .before) (k .sound);
+              taken = k .taken;
+            };
+        publishes = spoilt-publish (after x cs) s;
+        counts = spoilt-count (after x cs) s;
+        fixed = λ more. after-append x cs more ∙ spoilt-after (after x cs) s more;
+      }
+
+  -- DEMAND 3: any list of publish calls, under any lists, guards and strips, from any empty index
+  pub demand-3 : (cs : List Call) → Demand x cs
+  demand-3 cs = record { right = right-until cs; withheld = withheld-after cs }
