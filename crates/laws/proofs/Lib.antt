@@ -12,3 +12,4 @@ pub mod Checks
 pub mod Outcomes
 pub mod Calls
 pub mod Sets
+pub mod Records

@@ -1,6 +1,6 @@
 -- The words in which the laws speak of a call, without its steps: what destinations and sources come to, the bytes that are
 -- read, and what a change of a set may take away.
-use Prim.Native.Nat.{ℕ, _<_, _≤_}
+use Prim.Native.Nat.{ℕ, _+_, _<_, _≤_}
 use mathlib.Core.Path.{_≡_}
 use mathlib.Core.List.{List, [], _∷_}
 use mathlib.Core.Bool.{Bool, true, false, cond, _&&_, _||_}
@@ -23,6 +23,11 @@ added (d ∷ ds) ps = added ds (inserted (d .posting) ps)
 unfoldable pub takenAway : List Numbered → List Posting → List Posting
 takenAway [] ps = ps
 takenAway (d ∷ ds) ps = takenAway ds (removed (d .posting) ps)
+
+-- strictly ascending numbers, none below the first
+unfoldable pub rising : ℕ → List ℕ → Bool
+rising low [] = true
+rising low (n ∷ ns) = leb low n && rising (n + 1) ns
 
 -- the change number of the destination or source at a place of its list
 abbrev pub numberAt : List Numbered → ℕ → ℕ
