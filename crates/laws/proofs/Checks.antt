@@ -17,7 +17,7 @@ use Rattle.rules.specs.declared.Verdict.{Verdict}
 use Rattle.rules.specs.Postings.{every, same, present, inserted, within}
 use Rattle.rules.specs.Table.{postings, wellFormed, capacity}
 use Rattle.rules.specs.Orders.{Numbered, named, destinationOf, destinationsFrom, destinations, sources, postingsOf, properLists, properStrip}
-use Rattle.rules.specs.Checks.{Call, changesOf, must, orElse, firstRefusal, tableCheck, poisonCheck, listCheck, stripCheck, roomCheck, heldKey, guarded, guardedFrom, guardCheck, recordable, among, recordFrom, recordCheck, equalTo, twiceFrom, twiceCheck, noneWith, presentCheck, overlapCheck, prepareChecks, rollbackChecks, removalChecks, publishChecks, countChecks}
+use Rattle.rules.specs.Checks.{Call, changesOf, must, orElse, firstRefusal, tableCheck, poisonCheck, listCheck, stripCheck, roomCheck, heldKey, guarded, firstFailing, guardCheck, recordable, among, recordFrom, recordCheck, equalTo, twiceFrom, twiceCheck, presentCheck, overlapCheck, prepareChecks, rollbackChecks, removalChecks, publishChecks, countChecks}
 use Rattle.laws.specs.Words.{isRefusal}
 use Rattle.laws.proofs.Tests.{clash, and-left, and-right, both, neither}
 use Rattle.laws.proofs.Ranks.{same-turned}
@@ -70,12 +70,12 @@ proper-cons : (v : Verdict) (vs : List Verdict) → isProper v ≡ true → isPr
 unfolding firstRefusal
 proper-cons v vs h k = proper-else v (firstRefusal vs) h k
 
-proper-guarded : (i n : ℕ) (gs : List Guard) (cs : List Change) → isProper (guardedFrom i n gs cs) ≡ true
-unfolding guardedFrom
-proper-guarded i n gs [] = refl
-proper-guarded i n gs (c ∷ cs) =
-    proper-else (must (guarded n gs c) (Answer.Guard i)) (guardedFrom (i + 1) n gs cs) (proper-must (guarded n gs c) (Answer.Guard i) refl)
-    (proper-guarded (i + 1) n gs cs)
+proper-failing : {A : Type 0} (test : A → Bool) (answer : ℕ → A → Answer) (i : ℕ) (xs : List A) → ((k : ℕ) (x : A) → isRefusal (answer k x) ≡ true) → isProper (firstFailing test answer i xs) ≡ true
+unfolding firstFailing
+proper-failing test answer i [] h = refl
+proper-failing test answer i (x ∷ xs) h =
+    proper-else (must (test x) (answer i x)) (firstFailing test answer (i + 1) xs) (proper-must (test x) (answer i x) (h i x))
+    (proper-failing test answer (i + 1) xs h)
 
 proper-record : (place : ℕ) (cs : List Change) (earlier ns : List ℕ) → isProper (recordFrom place cs earlier ns) ≡ true
 unfolding recordFrom
@@ -87,25 +87,13 @@ proper-record place cs earlier (n ∷ ns) =
 
 proper-equal : (d : Numbered) (es : List Numbered) → isProper (equalTo d es) ≡ true
 unfolding equalTo
-proper-equal d [] = refl
-proper-equal d (e ∷ es) =
-    proper-else (must (not (same (e .posting) (d .posting))) (Answer.Twice (e .number) (d .number))) (equalTo d es)
-    (proper-must (not (same (e .posting) (d .posting))) (Answer.Twice (e .number) (d .number)) refl)
-    (proper-equal d es)
+proper-equal d es = proper-failing _ _ 0 es λ k x. refl
 
 proper-twice : (earlier ds : List Numbered) → isProper (twiceFrom earlier ds) ≡ true
 unfolding twiceFrom
 proper-twice earlier [] = refl
 proper-twice earlier (d ∷ ds) =
     proper-else (equalTo d earlier) (twiceFrom (earlier ++ d ∷ []) ds) (proper-equal d earlier) (proper-twice (earlier ++ d ∷ []) ds)
-
-proper-without : (f : Posting → Bool) (answer : ℕ → Answer) (ds : List Numbered) → ((n : ℕ) → isRefusal (answer n) ≡ true) → isProper (noneWith f answer ds) ≡ true
-unfolding noneWith
-proper-without f answer [] h = refl
-proper-without f answer (d ∷ ds) h =
-    proper-else (must (not (f (d .posting))) (answer (d .number))) (noneWith f answer ds)
-    (proper-must (not (f (d .posting))) (answer (d .number)) (h (d .number)))
-    (proper-without f answer ds h)
 
 -- each check of a call
 module _ (head : Head) (table : List ℕ) (c : Call) where
@@ -131,7 +119,7 @@ module _ (head : Head) (table : List ℕ) (c : Call) where
 
   proper-6 : isProper (guardCheck head c) ≡ true
   unfolding guardCheck
-  proper-6 = proper-guarded 0 (head .bindings) _ (changesOf c)
+  proper-6 = proper-failing _ _ 0 (changesOf c) λ k x. refl
 
   proper-14 : isProper (recordCheck c) ≡ true
   unfolding recordCheck
@@ -143,11 +131,11 @@ module _ (head : Head) (table : List ℕ) (c : Call) where
 
   proper-8 : isProper (presentCheck head table c) ≡ true
   unfolding presentCheck
-  proper-8 = proper-without _ Answer.Present (destinations (changesOf c)) λ n. refl
+  proper-8 = proper-failing _ _ 0 (destinations (changesOf c)) λ k x. refl
 
   proper-9 : isProper (overlapCheck c) ≡ true
   unfolding overlapCheck
-  proper-9 = proper-without _ Answer.Overlap (sources (changesOf c)) λ n. refl
+  proper-9 = proper-failing _ _ 0 (sources (changesOf c)) λ k x. refl
 
   -- and the checks of each call together
   pub prepare-proper : isProper (prepareChecks head table c) ≡ true
@@ -187,6 +175,16 @@ module _ (head : Head) (table : List ℕ) (c : Call) where
 pub refuses : (v : Verdict) (a : Answer) → isProper v ≡ true → v ≡ Verdict.Refused a → isRefusal a ≡ true
 refuses v a h e = rw e at h
 
+-- where no element fails, the first passes and so do the rest
+failing-first : {A : Type 0} (test : A → Bool) (answer : ℕ → A → Answer) (i : ℕ) (x : A) (xs : List A) → firstFailing test answer i (x ∷ xs) ≡ Verdict.Passes → test x ≡ true
+unfolding firstFailing
+failing-first test answer i x xs h =
+    must-holds (test x) (answer i x) (else-first (must (test x) (answer i x)) (firstFailing test answer (i + 1) xs) h)
+
+failing-rest : {A : Type 0} (test : A → Bool) (answer : ℕ → A → Answer) (i : ℕ) (x : A) (xs : List A) → firstFailing test answer i (x ∷ xs) ≡ Verdict.Passes → firstFailing test answer (i + 1) xs ≡ Verdict.Passes
+unfolding firstFailing
+failing-rest test answer i x xs h = else-second (must (test x) (answer i x)) (firstFailing test answer (i + 1) xs) h
+
 -- a guarded change names destinations within the binding count
 guarded-within : (n : ℕ) (gs : List Guard) (i : ℕ) (c : Change) (ds : List Numbered) → guarded n gs c ≡ true → every (within n) (postingsOf ds) ≡ true → every (within n) (postingsOf (named i c (destinationOf c) ds)) ≡ true
 unfolding guarded every within
@@ -201,44 +199,40 @@ guarded-within n gs i c ds h k = go (destinationOf c)
     go Key.Missing = k
     go (Key.Named key) = both (ltb (c .binding) n) (every (within n) (postingsOf ds)) below k
 
-destinations-within : (n : ℕ) (gs : List Guard) (i : ℕ) (cs : List Change) → guardedFrom i n gs cs ≡ Verdict.Passes → every (within n) (postingsOf (destinationsFrom i cs)) ≡ true
-unfolding guardedFrom destinationsFrom every
-destinations-within n gs i [] h = refl
-destinations-within n gs i (c ∷ cs) h =
-    guarded-within n gs i c (destinationsFrom (i + 1) cs)
-    (must-holds (guarded n gs c) (Answer.Guard i)
-    (else-first (must (guarded n gs c) (Answer.Guard i)) (guardedFrom (i + 1) n gs cs) h))
-    (destinations-within n gs (i + 1) cs
-    (else-second (must (guarded n gs c) (Answer.Guard i)) (guardedFrom (i + 1) n gs cs) h))
+destinations-within : (n : ℕ) (gs : List Guard) (answer : ℕ → Change → Answer) (i j : ℕ) (cs : List Change) → firstFailing (guarded n gs) answer j cs ≡ Verdict.Passes → every (within n) (postingsOf (destinationsFrom i cs)) ≡ true
+unfolding destinationsFrom every
+destinations-within n gs answer i j [] h = refl
+destinations-within n gs answer i j (c ∷ cs) h =
+    guarded-within n gs i c (destinationsFrom (i + 1) cs) (failing-first (guarded n gs) answer j c cs h)
+    (destinations-within n gs answer (i + 1) (j + 1) cs (failing-rest (guarded n gs) answer j c cs h))
 
 -- destinations that are neither in the table nor twice in the list are new, each when its turn comes
-not-earlier : (d : Numbered) (es : List Numbered) → equalTo d es ≡ Verdict.Passes → present (d .posting) (postingsOf es) ≡ false
-unfolding equalTo present
-not-earlier d [] h = refl
-not-earlier d (e ∷ es) h =
-    let v = must (not (same (e .posting) (d .posting))) (Answer.Twice (e .number) (d .number)) in
+not-among : (d : Numbered) (answer : ℕ → Numbered → Answer) (i : ℕ) (es : List Numbered) → firstFailing (λ (e : Numbered). not (same (e .posting) (d .posting))) answer i es ≡ Verdict.Passes → present (d .posting) (postingsOf es) ≡ false
+unfolding present
+not-among d answer i [] h = refl
+not-among d answer i (e ∷ es) h =
     neither (same (d .posting) (e .posting)) (present (d .posting) (postingsOf es))
-    (same-turned (d .posting) (e .posting)
-    ∙ not-true (same (e .posting) (d .posting))
-    (must-holds (not (same (e .posting) (d .posting))) (Answer.Twice (e .number) (d .number)) (else-first v (equalTo d es) h)))
-    (not-earlier d es (else-second v (equalTo d es) h))
+    (same-turned (d .posting) (e .posting) ∙ not-true (same (e .posting) (d .posting)) (failing-first _ answer i e es h))
+    (not-among d answer (i + 1) es (failing-rest _ answer i e es h))
+
+not-earlier : (d : Numbered) (es : List Numbered) → equalTo d es ≡ Verdict.Passes → present (d .posting) (postingsOf es) ≡ false
+unfolding equalTo
+not-earlier d es h = not-among d _ 0 es h
 
 present-last : (p : Posting) (es : List Numbered) (d : Numbered) → present p (postingsOf (es ++ d ∷ [])) ≡ (same p (d .posting) || present p (postingsOf es))
 unfolding present
 present-last p [] d = refl
 present-last p (e ∷ es) d = rw (present-last p es d) (or-swap (same p (e .posting)) (same p (d .posting)) (present p (postingsOf es)))
 
-fresh-from : (ps l : List Posting) (earlier ds : List Numbered) → ((p : Posting) → present p l ≡ (present p (postingsOf earlier) || present p ps)) → twiceFrom earlier ds ≡ Verdict.Passes → noneWith (λ p. present p ps) Answer.Present ds ≡ Verdict.Passes → Fresh ds l
-unfolding twiceFrom noneWith
-fresh-from ps l earlier [] f h k = tt
-fresh-from ps l earlier (d ∷ ds) f h k = (
+fresh-from : (ps l : List Posting) (earlier ds : List Numbered) (answer : ℕ → Numbered → Answer) (i : ℕ) → ((p : Posting) → present p l ≡ (present p (postingsOf earlier) || present p ps)) → twiceFrom earlier ds ≡ Verdict.Passes → firstFailing (λ (d : Numbered). not (present (d .posting) ps)) answer i ds ≡ Verdict.Passes → Fresh ds l
+unfolding twiceFrom
+fresh-from ps l earlier [] answer i f h k = tt
+fresh-from ps l earlier (d ∷ ds) answer i f h k = (
   rw (f (d .posting), not-earlier d earlier (else-first (equalTo d earlier) (twiceFrom (earlier ++ d ∷ []) ds) h))
-      (not-true (present (d .posting) ps)
-      (must-holds (not (present (d .posting) ps)) (Answer.Present (d .number))
-      (else-first (must (not (present (d .posting) ps)) (Answer.Present (d .number))) (noneWith (λ p. present p ps) Answer.Present ds) k))),
-  fresh-from ps (inserted (d .posting) l) (earlier ++ d ∷ []) ds next
+      (not-true (present (d .posting) ps) (failing-first _ answer i d ds k)),
+  fresh-from ps (inserted (d .posting) l) (earlier ++ d ∷ []) ds answer (i + 1) next
       (else-second (equalTo d earlier) (twiceFrom (earlier ++ d ∷ []) ds) h)
-      (else-second (must (not (present (d .posting) ps)) (Answer.Present (d .number))) (noneWith (λ p. present p ps) Answer.Present ds) k),
+      (failing-rest _ answer i d ds k),
 )
   where
     next : (p : Posting) → present p (inserted (d .posting) l) ≡ (present p (postingsOf (earlier ++ d ∷ [])) || present p ps)
@@ -281,9 +275,9 @@ module _ (head : Head) (table : List ℕ) (c : Call) where
         places =
             leb-true (length (changesOf c)) (length (c .recordList))
             (must-holds (leb (length (changesOf c)) (length (c .recordList))) Answer.Room (first-passes _ _ h5));
-        bound = destinations-within (head .bindings) _ 0 (changesOf c) (first-passes _ _ h6);
+        bound = destinations-within (head .bindings) _ _ 0 0 (changesOf c) (first-passes _ _ h6);
         fresh =
-            fresh-from (postings (head .used) table) (postings (head .used) table) [] (destinations (changesOf c)) (λ p. refl)
+            fresh-from (postings (head .used) table) (postings (head .used) table) [] (destinations (changesOf c)) _ 0 (λ p. refl)
             (first-passes _ _ h7)
             (first-passes _ _ h8);
       }

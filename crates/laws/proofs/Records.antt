@@ -36,9 +36,10 @@ module _ (all : List Change) (i : ℕ) (c : Change) (cs : List Change) (b : Behi
 
   behind-rest : Behind all (i + 1) cs
   behind-rest =
-      record
-        { same-there = λ k. let e : i + 1 + k ≡ i + suc k = omega arith in ap (λ n. getD all n noChange) e ∙ b .same-there (suc k)
-        ; size = let s = b .size in omega arith }
+      record {
+        same-there = λ k. let e : i + 1 + k ≡ i + suc k = omega arith in ap (λ n. getD all n noChange) e ∙ b .same-there (suc k);
+        size = let s = b .size in omega arith;
+      }
 
 -- what the record names are the destinations themselves, in the same order
 recorded-from : (all : List Change) (i : ℕ) (cs : List Change) → Behind all i cs → recorded all (numbersOf (destinationsFrom i cs)) ≡ destinationsFrom i cs

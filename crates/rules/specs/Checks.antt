@@ -39,6 +39,11 @@ unfoldable pub firstRefusal : List Verdict → Verdict
 firstRefusal [] = Verdict.Passes
 firstRefusal (v ∷ vs) = orElse v (firstRefusal vs)
 
+-- the first element of a list, numbered from i on, that fails its test
+unfoldable pub firstFailing : {A : Type 0} → (A → Bool) → (ℕ → A → Answer) → ℕ → List A → Verdict
+firstFailing test answer i [] = Verdict.Passes
+firstFailing test answer i (x ∷ xs) = orElse (must (test x) (answer i x)) (firstFailing test answer (i + 1) xs)
+
 -- 1
 unfoldable pub tableCheck : Head → List ℕ → Verdict
 tableCheck head table = must (wellFormed head table) Answer.Table
@@ -69,13 +74,10 @@ unfoldable pub guarded : ℕ → List Guard → Change → Bool
 guarded bindings gs c =
     ltb (c .binding) bindings && heldKey (c .binding) (c .before) gs && heldKey (c .binding) (c .after) gs
 
--- 6: the first change, numbered from i on, that is not guarded
-unfoldable pub guardedFrom : ℕ → ℕ → List Guard → List Change → Verdict
-guardedFrom i bindings gs [] = Verdict.Passes
-guardedFrom i bindings gs (c ∷ cs) = orElse (must (guarded bindings gs c) (Answer.Guard i)) (guardedFrom (i + 1) bindings gs cs)
-
+-- 6: the first change that is not guarded
 unfoldable pub guardCheck : Head → Call → Verdict
-guardCheck head c = guardedFrom 0 (head .bindings) (guards (c .guardList)) (changesOf c)
+guardCheck head c =
+    firstFailing (guarded (head .bindings) (guards (c .guardList))) (λ i change. Answer.Guard i) 0 (changesOf c)
 
 -- a number of a record means a destination: it is below the change count and its after is not none
 abbrev pub isNamed : Key → Bool
@@ -101,8 +103,8 @@ recordCheck c = recordFrom 0 (changesOf c) [] (c .recordList)
 
 -- the first of the earlier destinations that equals d
 unfoldable pub equalTo : Numbered → List Numbered → Verdict
-equalTo d [] = Verdict.Passes
-equalTo d (e ∷ es) = orElse (must (not (same (e .posting) (d .posting))) (Answer.Twice (e .number) (d .number))) (equalTo d es)
+equalTo d earlier =
+    firstFailing (λ (e : Numbered). not (same (e .posting) (d .posting))) (λ i e. Answer.Twice (e .number) (d .number)) 0 earlier
 
 -- 7: each destination in turn (j) beside those before it, from the first on (i)
 unfoldable pub twiceFrom : List Numbered → List Numbered → Verdict
@@ -112,20 +114,21 @@ twiceFrom earlier (d ∷ ds) = orElse (equalTo d earlier) (twiceFrom (earlier ++
 unfoldable pub twiceCheck : Call → Verdict
 twiceCheck c = twiceFrom [] (destinations (changesOf c))
 
--- the first of the numbered postings that has the fault
-unfoldable pub noneWith : (Posting → Bool) → (ℕ → Answer) → List Numbered → Verdict
-noneWith fault answer [] = Verdict.Passes
-noneWith fault answer (d ∷ ds) = orElse (must (not (fault (d .posting))) (answer (d .number))) (noneWith fault answer ds)
-
--- 8: no destination stands in the table
+-- 8: the first destination that stands in the table
 unfoldable pub presentCheck : Head → List ℕ → Call → Verdict
 presentCheck head table c =
-    noneWith (λ p. present p (postings (head .used) table)) Answer.Present (destinations (changesOf c))
+    firstFailing (λ (d : Numbered). not (present (d .posting) (postings (head .used) table)))
+    (λ i d. Answer.Present (d .number))
+    0
+    (destinations (changesOf c))
 
--- 9: no source equals a destination of the list, its own change's or another's
+-- 9: the first source that equals a destination of the list, its own change's or another's
 unfoldable pub overlapCheck : Call → Verdict
 overlapCheck c =
-    noneWith (λ p. present p (postingsOf (destinations (changesOf c)))) Answer.Overlap (sources (changesOf c))
+    firstFailing (λ (s : Numbered). not (present (s .posting) (postingsOf (destinations (changesOf c)))))
+    (λ i s. Answer.Overlap (s .number))
+    0
+    (sources (changesOf c))
 
 unfoldable pub prepareChecks : Head → List ℕ → Call → Verdict
 prepareChecks head table c =
