@@ -176,12 +176,12 @@ pub refuses : (v : Verdict) (a : Answer) → isProper v ≡ true → v ≡ Verdi
 refuses v a h e = rw e at h
 
 -- where no element fails, the first passes and so do the rest
-failing-first : {A : Type 0} (test : A → Bool) (answer : ℕ → A → Answer) (i : ℕ) (x : A) (xs : List A) → firstFailing test answer i (x ∷ xs) ≡ Verdict.Passes → test x ≡ true
+pub failing-first : {A : Type 0} (test : A → Bool) (answer : ℕ → A → Answer) (i : ℕ) (x : A) (xs : List A) → firstFailing test answer i (x ∷ xs) ≡ Verdict.Passes → test x ≡ true
 unfolding firstFailing
 failing-first test answer i x xs h =
     must-holds (test x) (answer i x) (else-first (must (test x) (answer i x)) (firstFailing test answer (i + 1) xs) h)
 
-failing-rest : {A : Type 0} (test : A → Bool) (answer : ℕ → A → Answer) (i : ℕ) (x : A) (xs : List A) → firstFailing test answer i (x ∷ xs) ≡ Verdict.Passes → firstFailing test answer (i + 1) xs ≡ Verdict.Passes
+pub failing-rest : {A : Type 0} (test : A → Bool) (answer : ℕ → A → Answer) (i : ℕ) (x : A) (xs : List A) → firstFailing test answer i (x ∷ xs) ≡ Verdict.Passes → firstFailing test answer (i + 1) xs ≡ Verdict.Passes
 unfolding firstFailing
 failing-rest test answer i x xs h = else-second (must (test x) (answer i x)) (firstFailing test answer (i + 1) xs) h
 

@@ -13,3 +13,4 @@ pub mod Outcomes
 pub mod Calls
 pub mod Sets
 pub mod Records
+pub mod Names

@@ -1,0 +1,309 @@
+-- Each check that names something names the first, and where it passes nothing is bad.
+use Prim.Native.Nat.{ℕ, zero, suc, _+_, _≤_, _<_}
+use native.Mathlib.Nat.{zero-add}
+use native.Mathlib.Omega.{arith}
+use mathlib.Core.Path.{_≡_, refl, sym, ap, _∙_}
+use mathlib.Core.List.{List, [], _∷_, _++_}
+use mathlib.Core.Bool.{Bool, true, false, not, _&&_, _||_}
+use mathlib.Core.Logic.{_⊎_, inl, inr, ⊎-elim}
+use lib.ListN.{length, getD, length-append, List·getD-append}
+use lib.Seq.{getD-append-seam, append-snoc}
+use lib.Dec.{eqb, ltb}
+use borrow.Author.Tests.{eqb-true, eqb-false, eq-eqb, ne-eqb, ltb-true, ltb-false, not-true, not-false}
+use Rattle.rules.specs.declared.Posting.{Posting}
+use Rattle.rules.specs.declared.Change.{Change}
+use Rattle.rules.specs.declared.Guard.{Guard}
+use Rattle.rules.specs.declared.Head.{Head}
+use Rattle.rules.specs.declared.Answer.{Answer}
+use Rattle.rules.specs.declared.Verdict.{Verdict}
+use Rattle.rules.specs.Postings.{same, present}
+use Rattle.rules.specs.Table.{postings}
+use Rattle.rules.specs.Orders.{Numbered, guards, destinations, sources, postingsOf, noChange}
+use Rattle.rules.specs.Checks.{Call, changesOf, must, orElse, firstFailing, guarded, guardCheck, recordable, among, recordFrom, recordCheck, equalTo, twiceFrom, twiceCheck, presentCheck, overlapCheck}
+use Rattle.laws.specs.Words.{numberAt}
+use Rattle.laws.specs.Names.{nowhere, FirstAt, twins, FirstPair, Repeated, FirstBad}
+use Rattle.laws.proofs.Tests.{clash, and-left, and-right, or-left, or-right}
+use Rattle.laws.proofs.Lists.{or-swap}
+use Rattle.laws.proofs.Checks.{must-holds, else-first, else-second, failing-first, failing-rest}
+
+-- where none fails
+pub failing-passes : {A : Type 0} (none : A) (test : A → Bool) (answer : ℕ → A → Answer) (i : ℕ) (xs : List A) → firstFailing test answer i xs ≡ Verdict.Passes → (k : ℕ) → k < length xs → test (getD xs k none) ≡ true
+failing-passes none test answer i [] h k l = absurd (omega arith)
+failing-passes none test answer i (x ∷ xs) h zero l = failing-first test answer i x xs h
+failing-passes none test answer i (x ∷ xs) h (suc k) l =
+    failing-passes none test answer (i + 1) xs (failing-rest test answer i x xs h) k (omega arith)
+
+-- where one fails, the first is named
+pub record Named {A : Type 0} (none : A) (test : A → Bool) (answer : ℕ → A → Answer) (i : ℕ) (xs : List A) (a : Answer) : Type 0 where
+  pub at : ℕ
+  pub first : FirstAt test none xs at
+  pub names : a ≡ answer (i + at) (getD xs at none)
+
+pub failing-names : {A : Type 0} (none : A) (test : A → Bool) (answer : ℕ → A → Answer) (i : ℕ) (xs : List A) (a : Answer) → firstFailing test answer i xs ≡ Verdict.Refused a → Named none test answer i xs a
+unfolding firstFailing
+failing-names none test answer i [] a h = let z : _≡_ {A = ℕ} 0 1 = cc in absurd (omega arith)
+failing-names none test answer i (x ∷ xs) a h = go (test x) refl (failing-names none test answer (i + 1) xs a) h
+  where
+    refused : {v w : Answer} → Verdict.Refused v ≡ Verdict.Refused w → v ≡ w
+    refused {v} {w} e = cc
+
+    go : (b : Bool) → test x ≡ b → (firstFailing test answer (i + 1) xs ≡ Verdict.Refused a → Named none test answer (i + 1) xs a) → orElse (must b (answer i x)) (firstFailing test answer (i + 1) xs) ≡ Verdict.Refused a → Named none test answer i (x ∷ xs) a
+    go false e ih h =
+        let n : i ≡ i + 0 = omega arith in
+        record {
+          at = 0;
+          first = record { there = omega arith; fails = e; before = λ k l. absurd (omega arith) };
+          names = sym (refused h) ∙ ap (λ k. answer k x) n;
+        }
+    go true e ih h =
+        let r = ih h in
+        let n : i + 1 + r .at ≡ i + suc (r .at) = omega arith in
+        record {
+          at = suc (r .at);
+          first =
+              record {
+                there = let t = r .first .there in omega arith;
+                fails = r .first .fails;
+                before = λ k l. earlier (r .at) (r .first .before) k l;
+              };
+          names = r .names ∙ ap (λ k. answer k (getD xs (r .at) none)) n;
+        }
+      where
+        earlier : (m : ℕ) → ((k : ℕ) → k < m → test (getD xs k none) ≡ true) → (k : ℕ) → k < suc m → test (getD (x ∷ xs) k none) ≡ true
+        earlier m f zero l = e
+        earlier m f (suc k) l = f k (omega arith)
+
+-- 6, 8 and 9
+module _ (head : Head) (table : List ℕ) (c : Call) where
+  pub guard-passes : guardCheck head c ≡ Verdict.Passes → (k : ℕ) → k < length (changesOf c) → guarded (head .bindings) (guards (c .guardList)) (getD (changesOf c) k noChange) ≡ true
+  unfolding guardCheck
+  guard-passes h = failing-passes noChange _ _ 0 (changesOf c) h
+
+  pub guard-names : (a : Answer) → guardCheck head c ≡ Verdict.Refused a → (k : ℕ) × FirstAt (guarded (head .bindings) (guards (c .guardList))) noChange (changesOf c) k × (a ≡ Answer.Guard k)
+  unfolding guardCheck
+  guard-names a h =
+      let n = failing-names noChange _ _ 0 (changesOf c) a h in
+      (n .at, n .first, n .names ∙ ap Answer.Guard (zero-add (n .at)))
+
+  pub present-passes : presentCheck head table c ≡ Verdict.Passes → (k : ℕ) → k < length (destinations (changesOf c)) → present (getD (destinations (changesOf c)) k nowhere .posting) (postings (head .used) table) ≡ false
+  unfolding presentCheck
+  present-passes h k l = not-true _ (failing-passes nowhere _ _ 0 (destinations (changesOf c)) h k l)
+
+  pub present-names : (a : Answer) → presentCheck head table c ≡ Verdict.Refused a → (k : ℕ) × FirstAt (λ (d : Numbered). not (present (d .posting) (postings (head .used) table))) nowhere (destinations (changesOf c)) k × (a ≡ Answer.Present (numberAt (destinations (changesOf c)) k))
+  unfolding presentCheck
+  present-names a h =
+      let n = failing-names nowhere _ _ 0 (destinations (changesOf c)) a h in
+      (n .at, n .first, n .names)
+
+  pub overlap-passes : overlapCheck c ≡ Verdict.Passes → (k : ℕ) → k < length (sources (changesOf c)) → present (getD (sources (changesOf c)) k nowhere .posting) (postingsOf (destinations (changesOf c))) ≡ false
+  unfolding overlapCheck
+  overlap-passes h k l = not-true _ (failing-passes nowhere _ _ 0 (sources (changesOf c)) h k l)
+
+  pub overlap-names : (a : Answer) → overlapCheck c ≡ Verdict.Refused a → (k : ℕ) × FirstAt (λ (s : Numbered). not (present (s .posting) (postingsOf (destinations (changesOf c))))) nowhere (sources (changesOf c)) k × (a ≡ Answer.Overlap (numberAt (sources (changesOf c)) k))
+  unfolding overlapCheck
+  overlap-names a h =
+      let n = failing-names nowhere _ _ 0 (sources (changesOf c)) a h in
+      (n .at, n .first, n .names)
+
+-- 7: all destinations of a list up to a place differ from each other
+abbrev pub Apart : List Numbered → ℕ → Type 0
+Apart ds n = (l m : ℕ) → l < m → m < n → twins ds l m ≡ false
+
+-- the destination at place n, behind the earlier ones
+module _ (all earlier : List Numbered) (d : Numbered) (ds : List Numbered) (e : all ≡ earlier ++ d ∷ ds) where
+  at-earlier : (k : ℕ) → k < length earlier → getD all k nowhere ≡ getD earlier k nowhere
+  at-earlier k h = rw e (List·getD-append earlier (d ∷ ds) nowhere k h)
+
+  at-here : getD all (length earlier) nowhere ≡ d
+  at-here = rw e (getD-append-seam earlier d ds nowhere)
+
+  within-all : length earlier < length all
+  within-all = let n = length-append earlier (d ∷ ds) in let m = ap length e in omega arith
+
+  further : all ≡ (earlier ++ d ∷ []) ++ ds
+  further = e ∙ sym (append-snoc earlier d ds)
+
+  longer : length (earlier ++ d ∷ []) ≡ length earlier + 1
+  longer = length-append earlier (d ∷ [])
+
+  -- d differs from the earlier ones
+  apart-more : Apart all (length earlier) → equalTo d earlier ≡ Verdict.Passes → Apart all (length (earlier ++ d ∷ []))
+  unfolding equalTo
+  apart-more f h l m x y = go (eqb m (length earlier)) refl
+    where
+      go : (b : Bool) → eqb m (length earlier) ≡ b → twins all l m ≡ false
+      go true k =
+          let z = eqb-true m (length earlier) k in
+          rw (z, at-here, at-earlier l (omega arith)) (not-true _ (failing-passes nowhere _ _ 0 earlier h l (omega arith)))
+      go false k =
+          let z = eqb-false m (length earlier) k in
+          let w = longer in
+          f l m x (omega arith)
+
+  pair-here : (a : Answer) → Apart all (length earlier) → equalTo d earlier ≡ Verdict.Refused a → (i : ℕ) × FirstPair all i (length earlier) × (a ≡ Answer.Twice (numberAt all i) (numberAt all (length earlier)))
+  unfolding equalTo
+  pair-here a f h =
+      let n = failing-names nowhere _ _ 0 earlier a h in
+      let t = n .first .there in (
+        n .at,
+        record {
+          order = t;
+          there = within-all;
+          equal = rw (at-here, at-earlier (n .at) t) (not-false _ (n .first .fails));
+          nearest = λ l k. rw (at-here, at-earlier l (omega arith)) (not-true _ (n .first .before l k));
+          before = f;
+        },
+        n .names ∙ (λ k. Answer.Twice (sym (at-earlier (n .at) t) k .number) (sym at-here k .number)),
+      )
+
+pub record Pair (ds : List Numbered) (a : Answer) : Type 0 where
+  pub i : ℕ
+  pub j : ℕ
+  pub first : FirstPair ds i j
+  pub names : a ≡ Answer.Twice (numberAt ds i) (numberAt ds j)
+
+twice-from : (all earlier ds : List Numbered) → all ≡ earlier ++ ds → Apart all (length earlier) → (twiceFrom earlier ds ≡ Verdict.Passes → Apart all (length all)) × ((a : Answer) → twiceFrom earlier ds ≡ Verdict.Refused a → Pair all a)
+unfolding twiceFrom
+twice-from all earlier [] e f = (
+  (λ h. let n : length all ≡ length earlier = ap length e ∙ (length-append earlier [] ∙ omega arith) in rw n f),
+  (λ a h. let z : _≡_ {A = ℕ} 0 1 = cc in absurd (omega arith)),
+)
+twice-from all earlier (d ∷ ds) e f =
+    go (equalTo d earlier) refl
+    (λ h. twice-from all (earlier ++ d ∷ []) ds (further all earlier d ds e) (apart-more all earlier d ds e f h))
+  where
+    go : (v : Verdict) → equalTo d earlier ≡ v → (equalTo d earlier ≡ Verdict.Passes → (twiceFrom (earlier ++ d ∷ []) ds ≡ Verdict.Passes → Apart all (length all)) × ((a : Answer) → twiceFrom (earlier ++ d ∷ []) ds ≡ Verdict.Refused a → Pair all a)) → (orElse v (twiceFrom (earlier ++ d ∷ []) ds) ≡ Verdict.Passes → Apart all (length all)) × ((a : Answer) → orElse v (twiceFrom (earlier ++ d ∷ []) ds) ≡ Verdict.Refused a → Pair all a)
+    go Verdict.Passes h ih = ih h
+    go (Verdict.Refused b) h ih = (
+      (λ k. let z : _≡_ {A = ℕ} 0 1 = cc in absurd (omega arith)),
+      (λ a k.
+          let p = pair-here all earlier d ds e a f (h ∙ k) in
+          record { i = p .0; j = length earlier; first = p .1; names = p .2 }),
+    )
+
+module _ (c : Call) where
+  both-ways : (twiceFrom [] (destinations (changesOf c)) ≡ Verdict.Passes → Apart (destinations (changesOf c)) (length (destinations (changesOf c)))) × ((a : Answer) → twiceFrom [] (destinations (changesOf c)) ≡ Verdict.Refused a → Pair (destinations (changesOf c)) a)
+  both-ways = twice-from (destinations (changesOf c)) [] (destinations (changesOf c)) refl λ l m x y. absurd (omega arith)
+
+  -- upstream's unique_destinations
+  pub twice-passes : twiceCheck c ≡ Verdict.Passes → Apart (destinations (changesOf c)) (length (destinations (changesOf c)))
+  unfolding twiceCheck
+  twice-passes h = both-ways .0 h
+
+  pub twice-names : (a : Answer) → twiceCheck c ≡ Verdict.Refused a → Pair (destinations (changesOf c)) a
+  unfolding twiceCheck
+  twice-names a h = both-ways .1 a h
+
+-- 14: the numbers at earlier places
+among-at : (n : ℕ) (ns : List ℕ) → among n ns ≡ true → (i : ℕ) × (i < length ns) × (getD ns i 0 ≡ n)
+unfolding among
+among-at n [] h = absurd (clash false h refl)
+among-at n (m ∷ ms) h = go (eqb n m) refl (among-at n ms) h
+  where
+    go : (b : Bool) → eqb n m ≡ b → (among n ms ≡ true → (i : ℕ) × (i < length ms) × (getD ms i 0 ≡ n)) → (b || among n ms) ≡ true → (i : ℕ) × (i < length (m ∷ ms)) × (getD (m ∷ ms) i 0 ≡ n)
+    go true e ih k = (0, omega arith, sym (eqb-true n m e))
+    go false e ih k = let r = ih k in let t = r .1 in (suc (r .0), omega arith, r .2)
+
+among-not : (n : ℕ) (ns : List ℕ) → among n ns ≡ false → (i : ℕ) → i < length ns → getD ns i 0 ≡ n → ⊥
+unfolding among
+among-not n [] h i l e = omega arith
+among-not n (m ∷ ms) h zero l e = eqb-false n m (or-left (eqb n m) (among n ms) h) (sym e)
+among-not n (m ∷ ms) h (suc i) l e = among-not n ms (or-right (eqb n m) (among n ms) h) i (omega arith) e
+
+among-snoc : (n : ℕ) (ns : List ℕ) (m : ℕ) → among n (ns ++ m ∷ []) ≡ (eqb n m || among n ns)
+unfolding among
+among-snoc n [] m = refl
+among-snoc n (x ∷ xs) m = rw (among-snoc n xs m) (or-swap (eqb n x) (eqb n m) (among n xs))
+
+-- a place is fine: its number means a destination and is new there
+abbrev Fine : List Change → List ℕ → ℕ → Type 0
+Fine cs ns i = (recordable cs (getD ns i 0) ≡ true) × (Repeated ns i → ⊥)
+
+abbrev AllFine : List Change → List ℕ → ℕ → Type 0
+AllFine cs ns k = (i : ℕ) → i < k → Fine cs ns i
+
+pub record BadPlace (cs : List Change) (ns : List ℕ) (a : Answer) : Type 0 where
+  pub at : ℕ
+  pub first : FirstBad cs ns at
+  pub names : a ≡ Answer.Record at
+
+-- the number at place `length pre`, behind those before it, of which `earlier` keeps the tally
+module _ (cs : List Change) (all pre : List ℕ) (n : ℕ) (ns earlier : List ℕ) (e : all ≡ pre ++ n ∷ ns) (f : (m : ℕ) → among m earlier ≡ among m pre) where
+  number-before : (k : ℕ) → k < length pre → getD all k 0 ≡ getD pre k 0
+  number-before k h = rw e (List·getD-append pre (n ∷ ns) 0 k h)
+
+  number-here : getD all (length pre) 0 ≡ n
+  number-here = rw e (getD-append-seam pre n ns 0)
+
+  place-here : length pre < length all
+  place-here = let x = length-append pre (n ∷ ns) in let y = ap length e in omega arith
+
+  repeat-here : among n earlier ≡ true → Repeated all (length pre)
+  repeat-here h =
+      let r = among-at n pre (sym (f n) ∙ h) in
+      record { at = r .0; earlier = r .1; equal = number-before (r .0) (r .1) ∙ (r .2 ∙ sym number-here) }
+
+  no-repeat-here : among n earlier ≡ false → Repeated all (length pre) → ⊥
+  no-repeat-here h r =
+      among-not n pre (sym (f n) ∙ h) (r .at) (r .earlier) (sym (number-before (r .at) (r .earlier)) ∙ (r .equal ∙ number-here))
+
+  numbers-further : all ≡ (pre ++ n ∷ []) ++ ns
+  numbers-further = e ∙ sym (append-snoc pre n ns)
+
+  tally : (m : ℕ) → among m (n ∷ earlier) ≡ among m (pre ++ n ∷ [])
+  unfolding among
+  tally m = ap (λ b. eqb m n || b) (f m) ∙ sym (among-snoc m pre n)
+
+  fine-more : AllFine cs all (length pre) → recordable cs n ≡ true → among n earlier ≡ false → AllFine cs all (length (pre ++ n ∷ []))
+  fine-more g h k i l = go (eqb i (length pre)) refl
+    where
+      go : (b : Bool) → eqb i (length pre) ≡ b → Fine cs all i
+      go true x =
+          rw (eqb-true i (length pre) x) (ap (recordable cs) number-here ∙ h, no-repeat-here k)
+      go false x = let z = eqb-false i (length pre) x in let w = length-append pre (n ∷ []) in g i (omega arith)
+
+  bad-here : AllFine cs all (length pre) → (recordable cs n && not (among n earlier)) ≡ false → FirstBad cs all (length pre)
+  bad-here g h = record { there = place-here; bad = go (recordable cs n) refl h; before = g }
+    where
+      go : (b : Bool) → recordable cs n ≡ b → (b && not (among n earlier)) ≡ false → (recordable cs (getD all (length pre) 0) ≡ false) ⊎ Repeated all (length pre)
+      go true x y = inr (repeat-here (not-false (among n earlier) y))
+      go false x y = inl (ap (recordable cs) number-here ∙ x)
+
+record-from : (cs : List Change) (all pre ns earlier : List ℕ) → all ≡ pre ++ ns → ((m : ℕ) → among m earlier ≡ among m pre) → AllFine cs all (length pre) → (recordFrom (length pre) cs earlier ns ≡ Verdict.Passes → AllFine cs all (length all)) × ((a : Answer) → recordFrom (length pre) cs earlier ns ≡ Verdict.Refused a → BadPlace cs all a)
+unfolding recordFrom
+record-from cs all pre [] earlier e f g = (
+  (λ h. let n : length all ≡ length pre = ap length e ∙ (length-append pre [] ∙ omega arith) in rw n g),
+  (λ a h. let z : _≡_ {A = ℕ} 0 1 = cc in absurd (omega arith)),
+)
+record-from cs all pre (n ∷ ns) earlier e f g =
+    go (recordable cs n && not (among n earlier)) refl
+    (λ h.
+    rw (length-append pre (n ∷ [])) at
+    (record-from cs all (pre ++ n ∷ []) ns (n ∷ earlier) (numbers-further cs all pre n ns earlier e f) (tally cs all pre n ns earlier e f)
+    (fine-more cs all pre n ns earlier e f g (and-left (recordable cs n) (not (among n earlier)) h) (not-true (among n earlier) (and-right (recordable cs n) (not (among n earlier)) h)))))
+  where
+    Both : Verdict → Type 0
+    Both v = (v ≡ Verdict.Passes → AllFine cs all (length all)) × ((a : Answer) → v ≡ Verdict.Refused a → BadPlace cs all a)
+
+    go : (b : Bool) → (recordable cs n && not (among n earlier)) ≡ b → ((recordable cs n && not (among n earlier)) ≡ true → Both (recordFrom (length pre + 1) cs (n ∷ earlier) ns)) → Both (orElse (must b (Answer.Record (length pre))) (recordFrom (length pre + 1) cs (n ∷ earlier) ns))
+    go true h ih = ih h
+    go false h ih = (
+      (λ k. let z : _≡_ {A = ℕ} 0 1 = cc in absurd (omega arith)),
+      (λ a k. record { at = length pre; first = bad-here cs all pre n ns earlier e f g h; names = same-refusal k }),
+    )
+      where
+        same-refusal : {a : Answer} → Verdict.Refused (Answer.Record (length pre)) ≡ Verdict.Refused a → a ≡ Answer.Record (length pre)
+        same-refusal {a} k = cc
+
+module _ (c : Call) where
+  record-both : (recordFrom 0 (changesOf c) [] (c .recordList) ≡ Verdict.Passes → AllFine (changesOf c) (c .recordList) (length (c .recordList))) × ((a : Answer) → recordFrom 0 (changesOf c) [] (c .recordList) ≡ Verdict.Refused a → BadPlace (changesOf c) (c .recordList) a)
+  record-both = record-from (changesOf c) (c .recordList) [] (c .recordList) [] refl (λ m. refl) λ i h. absurd (omega arith)
+
+  -- upstream's valid_indices
+  pub record-passes : recordCheck c ≡ Verdict.Passes → (i : ℕ) → i < length (c .recordList) → (recordable (changesOf c) (getD (c .recordList) i 0) ≡ true) × (Repeated (c .recordList) i → ⊥)
+  unfolding recordCheck
+  record-passes h = record-both .0 h
+
+  pub record-names : (a : Answer) → recordCheck c ≡ Verdict.Refused a → BadPlace (changesOf c) (c .recordList) a
+  unfolding recordCheck
+  record-names a h = record-both .1 a h
