@@ -16,21 +16,21 @@ use Rattle.rules.specs.Postings.{present, ascending}
 use Rattle.rules.specs.Table.{capacity, postings, laidOut, wellFormed}
 use Rattle.rules.specs.Orders.{Numbered, byteAt, destinations, sources, postingsOf, numbersOf}
 use Rattle.rules.specs.Answers.{isAccepted, poisons}
-use Rattle.rules.specs.Checks.{Call, changesOf, publishChecks}
-use Rattle.rules.specs.Calls.{Outcome, asBefore, written, prepared, publishOf}
+use Rattle.rules.specs.Checks.{Call, changesOf, prepareChecks, rollbackChecks, removalChecks, publishChecks}
+use Rattle.rules.specs.Calls.{Outcome, asBefore, written, prepared, prepareOf, rollbackOf, removalOf, publishOf}
 use Rattle.laws.specs.Words.{added, takenAway, numberAt, Quiet, Noisy, isRefusal}
 use Rattle.laws.proofs.Tests.{clash}
 use Rattle.laws.proofs.Ranks.{Tri, less, equal, more, tri}
 use Rattle.laws.proofs.Flat.{WellFormed, well-formed-parts, used-postings, postings-laid-out}
 use Rattle.laws.proofs.Answers.{refusal-unchanged, unchanged-accepts-not}
-use Rattle.laws.proofs.Checks.{isProper, publish-proper, refuses, Clear, publish-clear}
+use Rattle.laws.proofs.Checks.{isProper, publish-proper, refuses, Clear, prepare-clear, publish-clear}
 use Rattle.laws.proofs.Undo.{quiet-join, not-quiet}
 use Rattle.laws.proofs.Prepare.{Ready, Cause, Stopped, TakenBack, LeftBehind}
 use Rattle.laws.proofs.Remove.{Cleared, Halted}
-use Rattle.laws.proofs.Outcomes.{start, going, leaving, sourcesGone, stop-not-accepted, Published, published}
+use Rattle.laws.proofs.Outcomes.{start, going, leaving, recordedBack, stop-not-accepted, Published, published, Prepares, prepares, RollsBack, rolls-back, Removes, removes}
 use Rattle.laws.proofs.Outcomes as outcome
 use Rattle.laws.proofs.Sets.{present-said, said-list}
-use Rattle.history.specs.Acceptance.{Acceptable, Fails, Ends, Answered, saidOf, Leaves}
+use Rattle.history.specs.Acceptance.{Acceptable, Fails, Ends, RollbackEnds, RemovalEnds, Answered, PublishAnswers, PrepareAnswers, RollbackAnswers, RemovalAnswers, saidOf, Leaves}
 
 module _ (capacity used : ℕ) (strip : List ℕ) (ds ss : List Numbered) where
   -- the first insertion to fail is one
@@ -100,40 +100,91 @@ module _ (capacity used : ℕ) (strip : List ℕ) (ds ss : List Numbered) where
   ends-one a b (Ends.source i h r q x) (Ends.undo k f u) = absurd (fails-not i k r q f)
   ends-one a b (Ends.source i h r q x) (Ends.source j k r′ q′ y) = ap (λ n. Answer.Source (numberAt ss n)) (halts-one i j q x q′ y)
 
+  -- none of them accepts but the first
+  accepted-ends : (a : Answer) → isAccepted a ≡ true → End a → (used + length ds ≤ capacity) × Quiet strip 0 (length ds + length ss)
+  accepted-ends a h (Ends.accepted r q) = (r, q)
+  accepted-ends a h (Ends.store k f x u) = absurd (clash false h refl)
+  accepted-ends a h (Ends.full k f x u) = absurd (clash false h refl)
+  accepted-ends a h (Ends.undo k f u) = absurd (clash false h refl)
+  accepted-ends a h (Ends.source j k r q x) = absurd (clash false h refl)
+
+-- the last removal to fail is one, and so is the first
+module _ (strip : List ℕ) (items : List Numbered) where
+  pub rollback-ends-one : (a b : Answer) → RollbackEnds strip items a → RollbackEnds strip items b → a ≡ b
+  rollback-ends-one a b (RollbackEnds.accepted q) (RollbackEnds.accepted r) = refl
+  rollback-ends-one a b (RollbackEnds.accepted q) (RollbackEnds.undo k h x l) = absurd (x (q k (omega arith) h))
+  rollback-ends-one a b (RollbackEnds.undo k h x l) (RollbackEnds.accepted q) = absurd (x (q k (omega arith) h))
+  rollback-ends-one a b (RollbackEnds.undo k h x l) (RollbackEnds.undo k′ h′ x′ l′) = ap (λ i. Answer.Undo (numberAt items i)) (go (tri k k′))
+    where
+      go : Tri k k′ → k ≡ k′
+      go (less e) = absurd (x′ (l k′ (omega arith) h′))
+      go (equal e) = e
+      go (more e) = absurd (x (l′ k (omega arith) h))
+
+  pub removal-ends-one : (a b : Answer) → RemovalEnds strip items a → RemovalEnds strip items b → a ≡ b
+  removal-ends-one a b (RemovalEnds.accepted q) (RemovalEnds.accepted r) = refl
+  removal-ends-one a b (RemovalEnds.accepted q) (RemovalEnds.source j h l x) = absurd (x (q j (omega arith) h))
+  removal-ends-one a b (RemovalEnds.source j h l x) (RemovalEnds.accepted q) = absurd (x (q j (omega arith) h))
+  removal-ends-one a b (RemovalEnds.source j h l x) (RemovalEnds.source j′ h′ l′ x′) = ap (λ i. Answer.Source (numberAt items i)) (go (tri j j′))
+    where
+      go : Tri j j′ → j ≡ j′
+      go (less e) = absurd (x (l′ j (omega arith) e))
+      go (equal e) = e
+      go (more e) = absurd (x′ (l j′ (omega arith) e))
+
+-- where the checks are of a kind and the ends exclude each other, each answer is given exactly where its condition holds
+refused-one : (v : Verdict) (a b : Answer) → v ≡ Verdict.Refused a → v ≡ Verdict.Refused b → a ≡ b
+refused-one v a b p q = cc
+
+refused-not : {A : Type 0} (v : Verdict) (a : Answer) → v ≡ Verdict.Refused a → v ≡ Verdict.Passes → A
+refused-not v a p q = let z : _≡_ {A = ℕ} 0 1 = cc in absurd (omega arith)
+
+answered-one : (v : Verdict) (E : Answer → Type 0) → ((a b : Answer) → E a → E b → a ≡ b) → (a b : Answer) → Answered v E a → Answered v E b → a ≡ b
+answered-one v E f a b (Answered.refused p) (Answered.refused q) = refused-one v a b p q
+answered-one v E f a b (Answered.refused p) (Answered.ended q e) = refused-not v a p q
+answered-one v E f a b (Answered.ended p e) (Answered.refused q) = refused-not v b q p
+answered-one v E f a b (Answered.ended p d) (Answered.ended q e) = f a b d e
+
+exactly : (v : Verdict) (E : Answer → Type 0) → ((a b : Answer) → E a → E b → a ≡ b) → (given : Answer) → Answered v E given → (a : Answer) → (given ≡ a) ↔ Answered v E a
+exactly v E f given h a = ((λ e. rw e at h), (λ k. answered-one v E f given a h k))
+
+-- an accepted answer is no check's
+accepted-passes : (v : Verdict) (E : Answer → Type 0) → isProper v ≡ true → (a : Answer) → isAccepted a ≡ true → Answered v E a → (v ≡ Verdict.Passes) × E a
+accepted-passes v E p a h (Answered.refused e) =
+    absurd (clash (isAccepted a) h (unchanged-accepts-not a (refusal-unchanged a (refuses v a p e))))
+accepted-passes v E p a h (Answered.ended e k) = (e, k)
+
 module _ (head : Head) (table : List ℕ) (c : Call) where
-  abbrev End′ : Answer → Type 0
-  End′ = Ends (capacity table) (head .used) (c .strip) (going head table c) (leaving head table c)
+  used-start : Clear head table c → length (start head table c) ≡ head .used
+  used-start k = used-postings head table (well-formed-parts head table (k .formed))
 
-  used-start : publishChecks head table c ≡ Verdict.Passes → length (start head table c) ≡ head .used
-  used-start e = used-postings head table (well-formed-parts head table (publish-clear head table c e .formed))
+  ready-room : Clear head table c → Ready (capacity table) (c .strip) (going head table c) [] 0 (start head table c) (prepared head table c) → head .used + length (going head table c) ≤ capacity table
+  ready-room k r = let u = used-start k in let l = r .room in omega arith
 
-  ready-room : publishChecks head table c ≡ Verdict.Passes → Ready (capacity table) (c .strip) (going head table c) [] 0 (start head table c) (prepared head table c) → head .used + length (going head table c) ≤ capacity table
-  ready-room e r = let u = used-start e in let k = r .room in omega arith
-
-  stopped-fails : publishChecks head table c ≡ Verdict.Passes → (s : Stopped (capacity table) (c .strip) (start head table c) (going head table c) 0 0 (length (start head table c)) (prepared head table c)) → (byteAt (c .strip) (s .at) ≡ 0 → ⊥) ⊎ (head .used + s .at ≡ capacity table) → Fails (capacity table) (head .used) (c .strip) (going head table c) (s .at)
-  stopped-fails e s f =
+  stopped-fails : Clear head table c → (s : Stopped (capacity table) (c .strip) (start head table c) (going head table c) 0 0 (length (start head table c)) (prepared head table c)) → (byteAt (c .strip) (s .at) ≡ 0 → ⊥) ⊎ (head .used + s .at ≡ capacity table) → Fails (capacity table) (head .used) (c .strip) (going head table c) (s .at)
+  stopped-fails k s f =
       record {
         there = s .there;
-        quiet = λ i h k. s .quiet i h (omega arith);
-        room = let u = used-start e in let r = s .room in omega arith;
+        quiet = λ i h l. s .quiet i h (omega arith);
+        room = let u = used-start k in let r = s .room in omega arith;
         fault = f;
       }
 
   -- the insertion that stopped prepare is the first to fail, and its undo is clean or not
-  stopped-ends : publishChecks head table c ≡ Verdict.Passes → Stopped (capacity table) (c .strip) (start head table c) (going head table c) 0 0 (length (start head table c)) (prepared head table c) → End′ (prepared head table c .answer)
-  stopped-ends e s = go (s .why) (s .cause) (s .undo)
+  stopped-ends : (ss : List Numbered) → Clear head table c → Stopped (capacity table) (c .strip) (start head table c) (going head table c) 0 0 (length (start head table c)) (prepared head table c) → Ends (capacity table) (head .used) (c .strip) (going head table c) ss (prepared head table c .answer)
+  stopped-ends ss k s = go (s .why) (s .cause) (s .undo)
     where
       z : 0 + s .at ≡ s .at
       z = zero-add (s .at)
 
-      go : (why : Answer) → Cause (byteAt (c .strip) (0 + s .at)) (length (start head table c) + s .at) (capacity table) (numberAt (going head table c) (s .at)) why → TakenBack (c .strip) (0 + s .at + 1) (0 + s .at + 1 + (0 + s .at)) (start head table c) why (prepared head table c) ⊎ LeftBehind (c .strip) (0 + s .at + 1) (0 + s .at + 1 + (0 + s .at)) (numberAt (going head table c) (s .at)) (start head table c) (prepared head table c) → End′ (prepared head table c .answer)
+      go : (why : Answer) → Cause (byteAt (c .strip) (0 + s .at)) (length (start head table c) + s .at) (capacity table) (numberAt (going head table c) (s .at)) why → TakenBack (c .strip) (0 + s .at + 1) (0 + s .at + 1 + (0 + s .at)) (start head table c) why (prepared head table c) ⊎ LeftBehind (c .strip) (0 + s .at + 1) (0 + s .at + 1 + (0 + s .at)) (numberAt (going head table c) (s .at)) (start head table c) (prepared head table c) → Ends (capacity table) (head .used) (c .strip) (going head table c) ss (prepared head table c .answer)
       go why (Cause.store b) u =
           let b′ : byteAt (c .strip) (s .at) ≡ 0 → ⊥ = rw z at b in
-          let f = stopped-fails e s (inl b′) in
+          let f = stopped-fails k s (inl b′) in
           ⊎-elim (λ t. rw (t .answers) (Ends.store (s .at) f b′ (rw z at (t .quiet)))) (λ l. rw (l .answers) (Ends.undo (s .at) f (rw z at (l .noisy)))) u
-      go why (Cause.full b k) u =
-          let n = used-start e in
-          let f = stopped-fails e s (inr (omega arith)) in
+      go why (Cause.full b e) u =
+          let n = used-start k in
+          let f = stopped-fails k s (inr (omega arith)) in
           ⊎-elim (λ t. rw (t .answers) (Ends.full (s .at) f (rw z at b) (rw z at (t .quiet)))) (λ l. rw (l .answers) (Ends.undo (s .at) f (rw z at (l .noisy)))) u
 
   -- the bytes of all insertions, and then those of source removals
@@ -141,69 +192,98 @@ module _ (head : Head) (table : List ℕ) (c : Call) where
   ready-quiet n r q =
       quiet-join (c .strip) 0 (length (going head table c)) (length (going head table c) + n) (λ i h k. r .quiet i h (omega arith)) q
 
-  -- every publish is answered as told
-  pub publish-answered : Answered head table c (publishOf head table c .answer)
+  -- every call is answered as told
+  pub publish-answered : PublishAnswers head table c (publishOf head table c .answer)
   publish-answered = go (publishOf head table c) (published head table c)
     where
-      go : (o : Outcome) → Published head table c o → Answered head table c (o .answer)
+      go : (o : Outcome) → Published head table c o → PublishAnswers head table c (o .answer)
       go o (Published.refused a e k) = rw k (Answered.refused e)
       go o (Published.taken e r l k) =
-          rw k (Answered.ended e (Ends.accepted (ready-room e r) (ready-quiet (length (leaving head table c)) r (l .quiet))))
+          rw k
+          (Answered.ended e
+          (Ends.accepted (ready-room (publish-clear head table c e) r) (ready-quiet (length (leaving head table c)) r (l .quiet))))
       go o (Published.halted e r l k) =
           rw (k, l .answers)
-          (Answered.ended e (Ends.source (l .at) (l .there) (ready-room e r) (ready-quiet (l .at) r (l .quiet)) (l .fault)))
-      go o (Published.stopped e s k) = rw k (Answered.ended e (stopped-ends e s))
+          (Answered.ended e
+          (Ends.source (l .at) (l .there) (ready-room (publish-clear head table c e) r) (ready-quiet (l .at) r (l .quiet)) (l .fault)))
+      go o (Published.stopped e s k) = rw k (Answered.ended e (stopped-ends (leaving head table c) (publish-clear head table c e) s))
 
-  refused-one : (a b : Answer) → publishChecks head table c ≡ Verdict.Refused a → publishChecks head table c ≡ Verdict.Refused b → a ≡ b
-  refused-one a b p q = cc
+  pub prepare-answered : PrepareAnswers head table c (prepareOf head table c .answer)
+  prepare-answered = go (prepareOf head table c) (prepares head table c)
+    where
+      go : (o : Outcome) → Prepares head table c o → PrepareAnswers head table c (o .answer)
+      go o (Prepares.refused a e k) = rw k (Answered.refused e)
+      go o (Prepares.ready e r k) =
+          let n : 0 + length (going head table c) ≡ length (going head table c) = zero-add (length (going head table c)) in
+          rw (k, r .answers, n)
+          (Answered.ended e
+          (Ends.accepted (ready-room (prepare-clear head table c e) r) (ready-quiet 0 r λ i h l. absurd (omega arith))))
+      go o (Prepares.stopped e s k) = rw k (Answered.ended e (stopped-ends [] (prepare-clear head table c e) s))
 
-  refused-not : {A : Type 0} (a : Answer) → publishChecks head table c ≡ Verdict.Refused a → publishChecks head table c ≡ Verdict.Passes → A
-  refused-not a p q = let z : _≡_ {A = ℕ} 0 1 = cc in absurd (omega arith)
+  pub rollback-answered : RollbackAnswers head table c (rollbackOf head table c .answer)
+  rollback-answered = go (rollbackOf head table c) (rolls-back head table c)
+    where
+      go : (o : Outcome) → RollsBack head table c o → RollbackAnswers head table c (o .answer)
+      go o (RollsBack.refused a e k) = rw k (Answered.refused e)
+      go o (RollsBack.clean e r k) =
+          rw (k, r .verdict) (Answered.ended e (RollbackEnds.accepted λ i h l. r .quiet i h (omega arith)))
+      go o (RollsBack.failed e r k) =
+          let z : 0 + r .at ≡ r .at = zero-add (r .at) in
+          rw (k, r .verdict)
+          (Answered.ended e (RollbackEnds.undo (r .at) (r .there) (rw z at (r .fault)) λ i h l. r .last i (omega arith) (omega arith)))
 
-  pub answered-one : (a b : Answer) → Answered head table c a → Answered head table c b → a ≡ b
-  answered-one a b (Answered.refused p) (Answered.refused q) = refused-one a b p q
-  answered-one a b (Answered.refused p) (Answered.ended q e) = refused-not a p q
-  answered-one a b (Answered.ended p e) (Answered.refused q) = refused-not b q p
-  answered-one a b (Answered.ended p e) (Answered.ended q f) =
-      ends-one (capacity table) (head .used) (c .strip) (going head table c) (leaving head table c) a b e f
+  pub removal-answered : RemovalAnswers head table c (removalOf head table c .answer)
+  removal-answered = go (removalOf head table c) (removes head table c)
+    where
+      go : (o : Outcome) → Removes head table c o → RemovalAnswers head table c (o .answer)
+      go o (Removes.refused a e k) = rw k (Answered.refused e)
+      go o (Removes.cleared e r k) =
+          rw (k, r .answers) (Answered.ended e (RemovalEnds.accepted λ i h l. r .quiet i h (omega arith)))
+      go o (Removes.halted e r k) =
+          let z : 0 + r .at ≡ r .at = zero-add (r .at) in
+          rw (k, r .answers)
+          (Answered.ended e (RemovalEnds.source (r .at) (r .there) (λ i h l. r .quiet i h (omega arith)) (rw z at (r .fault))))
 
-  -- THE ACCEPTANCE LAW: each answer is given exactly where its condition holds
-  pub answered-exactly : (a : Answer) → (publishOf head table c .answer ≡ a) ↔ Answered head table c a
-  answered-exactly a = (
-    (λ e. rw e at publish-answered),
-    (λ h. answered-one (publishOf head table c .answer) a publish-answered h),
-  )
+  -- THE ACCEPTANCE LAW: each answer of each call is given exactly where its condition holds
+  pub publish-exactly : (a : Answer) → (publishOf head table c .answer ≡ a) ↔ PublishAnswers head table c a
+  publish-exactly =
+      exactly (publishChecks head table c) _
+      (ends-one (capacity table) (head .used) (c .strip) (going head table c) (leaving head table c))
+      (publishOf head table c .answer)
+      publish-answered
 
-  -- no condition accepts but this one
-  accepted-ends : (a : Answer) → isAccepted a ≡ true → End′ a → (head .used + length (going head table c) ≤ capacity table) × Quiet (c .strip) 0 (length (going head table c) + length (leaving head table c))
-  accepted-ends a h (Ends.accepted r q) = (r, q)
-  accepted-ends a h (Ends.store k f x u) = absurd (clash false h refl)
-  accepted-ends a h (Ends.full k f x u) = absurd (clash false h refl)
-  accepted-ends a h (Ends.undo k f u) = absurd (clash false h refl)
-  accepted-ends a h (Ends.source j k r q x) = absurd (clash false h refl)
+  pub prepare-exactly : (a : Answer) → (prepareOf head table c .answer ≡ a) ↔ PrepareAnswers head table c a
+  prepare-exactly =
+      exactly (prepareChecks head table c) _ (ends-one (capacity table) (head .used) (c .strip) (going head table c) [])
+      (prepareOf head table c .answer)
+      prepare-answered
+
+  pub rollback-exactly : (a : Answer) → (rollbackOf head table c .answer ≡ a) ↔ RollbackAnswers head table c a
+  rollback-exactly =
+      exactly (rollbackChecks head table c) _ (rollback-ends-one (c .strip) (recordedBack head table c)) (rollbackOf head table c .answer)
+      rollback-answered
+
+  pub removal-exactly : (a : Answer) → (removalOf head table c .answer ≡ a) ↔ RemovalAnswers head table c a
+  removal-exactly =
+      exactly (removalChecks head table c) _ (removal-ends-one (c .strip) (leaving head table c)) (removalOf head table c .answer)
+      removal-answered
 
   -- a publish is accepted exactly when no check applies, there is room, and every byte that it reads is 0
   pub accepted-exactly : (isAccepted (publishOf head table c .answer) ≡ true) ↔ Acceptable head table c
   accepted-exactly = (
-    (λ h. go (publishOf head table c .answer) h publish-answered),
-    (λ k. rw (answered-exactly _ .1 (Answered.ended (k .passes) (Ends.accepted (k .room) (k .quiet))))),
+    (λ h.
+        let k = accepted-passes _ _ (publish-proper head table c) _ h publish-answered in
+        let r = accepted-ends (capacity table) (head .used) (c .strip) (going head table c) (leaving head table c) _ h (k .1) in
+        record { passes = k .0; room = r .0; quiet = r .1 }),
+    (λ k. rw (publish-exactly _ .1 (Answered.ended (k .passes) (Ends.accepted (k .room) (k .quiet))))),
   )
-    where
-      go : (a : Answer) → isAccepted a ≡ true → Answered head table c a → Acceptable head table c
-      go a h (Answered.refused p) =
-          absurd
-          (clash (isAccepted a) h
-          (unchanged-accepts-not a (refusal-unchanged a (refuses (publishChecks head table c) a (publish-proper head table c) p))))
-      go a h (Answered.ended p e) =
-          let r = accepted-ends a h e in
-          record { passes = p; room = r .0; quiet = r .1 }
 
   -- and then its whole outcome is this
   pub acceptable-outcome : Acceptable head table c → publishOf head table c ≡ outcome.accepted head table c
   acceptable-outcome k = go (publishOf head table c) (accepted-exactly .1 k) (published head table c)
     where
       go : (o : Outcome) → isAccepted (o .answer) ≡ true → Published head table c o → o ≡ outcome.accepted head table c
-      go o h (Published.refused a e l) = refused-not a e (k .passes)
+      go o h (Published.refused a e l) = refused-not (publishChecks head table c) a e (k .passes)
       go o h (Published.taken e r l m) = m
       go o h (Published.halted e r l m) = absurd (clash (isAccepted (o .answer)) h (rw (m, l .answers)))
       go o h (Published.stopped e s m) =

@@ -1,8 +1,8 @@
--- When a publish is accepted, and how it ends otherwise, told by its checks, the room in the table and the bytes of the strip
--- alone. No step of prepare, undo or source removal is named here.
+-- When a publish is accepted, and how it and the other calls end otherwise, told by their checks, the room in the table and the
+-- bytes of the strip alone. No step of prepare, undo or source removal is named here.
 use Prim.Native.Nat.{ℕ, _+_, _≤_, _<_}
 use mathlib.Core.Path.{_≡_}
-use mathlib.Core.List.{List}
+use mathlib.Core.List.{List, [], reverse}
 use mathlib.Core.Bool.{Bool, true, false, not, _&&_, _||_}
 use mathlib.Core.Logic.{_⊎_}
 use lib.ListN.{length}
@@ -12,8 +12,8 @@ use Rattle.rules.specs.declared.Answer.{Answer}
 use Rattle.rules.specs.declared.Verdict.{Verdict}
 use Rattle.rules.specs.Postings.{present, ascending}
 use Rattle.rules.specs.Table.{capacity, postings, laidOut}
-use Rattle.rules.specs.Orders.{Numbered, byteAt, destinations, sources, postingsOf, numbersOf}
-use Rattle.rules.specs.Checks.{Call, changesOf, publishChecks}
+use Rattle.rules.specs.Orders.{Numbered, byteAt, destinations, sources, postingsOf, numbersOf, recorded}
+use Rattle.rules.specs.Checks.{Call, changesOf, prepareChecks, rollbackChecks, removalChecks, publishChecks}
 use Rattle.rules.specs.Calls.{Outcome, written}
 use Rattle.laws.specs.Words.{numberAt, Quiet, Noisy}
 
@@ -38,10 +38,41 @@ pub data Ends (capacity used : ℕ) (strip : List ℕ) (ds ss : List Numbered) :
   undo : (k : ℕ) → Fails capacity used strip ds k → Noisy strip (k + 1) (k + 1 + k) → Ends capacity used strip ds ss (Answer.Undo (numberAt ds k))
   source : (j : ℕ) → j < length ss → used + length ds ≤ capacity → Quiet strip 0 (length ds + j) → (byteAt strip (length ds + j) ≡ 0 → ⊥) → Ends capacity used strip ds ss (Answer.Source (numberAt ss j))
 
--- the answer of a publish: the first check's that applies, and else by how it ends
-pub data Answered (head : Head) (table : List ℕ) (c : Call) (a : Answer) : Type 0 where
-  refused : publishChecks head table c ≡ Verdict.Refused a → Answered head table c a
-  ended : publishChecks head table c ≡ Verdict.Passes → Ends (capacity table) (head .used) (c .strip) (destinations (changesOf c)) (sources (changesOf c)) a → Answered head table c a
+-- how a rollback ends, over its record's destinations in the order of their undo: 12 names the last removal to fail
+pub data RollbackEnds (strip : List ℕ) (items : List Numbered) : Answer → Type 0 where
+  accepted : Quiet strip 0 (length items) → RollbackEnds strip items (Answer.Accepted 0)
+  undo : (k : ℕ) → k < length items → (byteAt strip k ≡ 0 → ⊥) → Quiet strip (k + 1) (length items) → RollbackEnds strip items (Answer.Undo (numberAt items k))
+
+-- how a source removal ends: 13 names the first removal to fail
+pub data RemovalEnds (strip : List ℕ) (items : List Numbered) : Answer → Type 0 where
+  accepted : Quiet strip 0 (length items) → RemovalEnds strip items (Answer.Accepted 0)
+  source : (j : ℕ) → j < length items → Quiet strip 0 j → (byteAt strip j ≡ 0 → ⊥) → RemovalEnds strip items (Answer.Source (numberAt items j))
+
+-- the answer of a call: the first check's that applies, and else by how it ends
+pub data Answered (checks : Verdict) (ends : Answer → Type 0) (a : Answer) : Type 0 where
+  refused : checks ≡ Verdict.Refused a → Answered checks ends a
+  ended : checks ≡ Verdict.Passes → ends a → Answered checks ends a
+
+module _ (head : Head) (table : List ℕ) (c : Call) where
+  abbrev pub PublishAnswers : Answer → Type 0
+  PublishAnswers a =
+      Answered (publishChecks head table c)
+      (Ends (capacity table) (head .used) (c .strip) (destinations (changesOf c)) (sources (changesOf c)))
+      a
+
+  -- as a publish that has no source
+  abbrev pub PrepareAnswers : Answer → Type 0
+  PrepareAnswers a =
+      Answered (prepareChecks head table c) (Ends (capacity table) (head .used) (c .strip) (destinations (changesOf c)) []) a
+
+  abbrev pub RollbackAnswers : Answer → Type 0
+  RollbackAnswers a =
+      Answered (rollbackChecks head table c)
+      (RollbackEnds (c .strip) (reverse (recorded (changesOf c) (c .recordList))))
+      a
+
+  abbrev pub RemovalAnswers : Answer → Type 0
+  RemovalAnswers a = Answered (removalChecks head table c) (RemovalEnds (c .strip) (sources (changesOf c))) a
 
 -- a posting stands in the table or is a destination, and is no source
 abbrev pub saidOf : Head → List ℕ → Call → Posting → Bool
