@@ -1,0 +1,97 @@
+-- Upstream's contracts of the posting functions, clause by clause, said of the outcome of a call. What upstream requires is
+-- checked here and refused; so it holds wherever a call is accepted.
+use Prim.Native.Nat.{ℕ, _<_}
+use mathlib.Core.Path.{_≡_}
+use mathlib.Core.List.{List, [], _∷_}
+use mathlib.Core.Bool.{Bool, true, false, not, _&&_, _||_}
+use mathlib.Core.Logic.{_⊎_}
+use lib.ListN.{length, getD}
+use Rattle.rules.specs.declared.Posting.{Posting}
+use Rattle.rules.specs.declared.Head.{Head}
+use Rattle.rules.specs.declared.Answer.{Answer}
+use Rattle.rules.specs.declared.Change.{Change}
+use Rattle.rules.specs.declared.Verdict.{Verdict}
+use Rattle.rules.specs.Postings.{present}
+use Rattle.rules.specs.Table.{postings}
+use Rattle.rules.specs.Orders.{Numbered, guards, destinations, sources, postingsOf, numbersOf, noChange, recorded}
+use Rattle.rules.specs.Answers.{isAccepted, poisons}
+use Rattle.rules.specs.Checks.{Call, changesOf, guarded, recordable, among, recordFrom}
+use Rattle.rules.specs.Calls.{Outcome, asBefore, written}
+use Rattle.laws.specs.Words.{RemovedOnly, Stable, rising}
+use Rattle.laws.specs.Names.{nowhere, twins, Repeated}
+
+abbrev pub postingsBefore : Head → List ℕ → List Posting
+postingsBefore head table = postings (head .used) table
+
+abbrev pub postingsLeft : Outcome → List Posting
+postingsLeft o = postings (o .head .used) (o .table)
+
+module _ (head : Head) (table : List ℕ) (c : Call) where
+  -- valid: every change is guarded
+  abbrev pub Valid : Type 0
+  Valid =
+      (k : ℕ) → k < length (changesOf c) → guarded (head .bindings) (guards (c .guardList)) (getD (changesOf c) k noChange) ≡ true
+
+  -- unique_destinations
+  abbrev pub UniqueDestinations : Type 0
+  UniqueDestinations =
+      (i j : ℕ) → i < j → j < length (destinations (changesOf c)) → twins (destinations (changesOf c)) i j ≡ false
+
+  -- postings.disjoint(destinations)
+  abbrev pub Disjoint : Type 0
+  Disjoint =
+      (k : ℕ) → k < length (destinations (changesOf c)) → present (getD (destinations (changesOf c)) k nowhere .posting) (postingsBefore head table) ≡ false
+
+  -- valid_indices: each number means a destination, none stands twice
+  abbrev pub ValidIndices : Type 0
+  ValidIndices =
+      (i : ℕ) → i < length (c .recordList) → (recordable (changesOf c) (getD (c .recordList) i 0) ≡ true) × (Repeated (c .recordList) i → ⊥)
+
+  -- an error: 12 and 13 poison, every other leaves all as before
+  pub record Errors (o : Outcome) : Type 0 where
+    pub poisoned : poisons (o .answer) ≡ true → o .head .poisoned ≡ 1
+    pub others : isAccepted (o .answer) ≡ false → poisons (o .answer) ≡ false → o ≡ asBefore head table (c .recordList) (o .answer)
+
+  -- rollback_index_destinations
+  pub record RollbackClauses (o : Outcome) : Type 0 where
+    pub requiresValid : isAccepted (o .answer) ≡ true → Valid
+    pub requiresIndices : isAccepted (o .answer) ≡ true → ValidIndices
+    pub stable : Stable head table o
+    pub okFlag : isAccepted (o .answer) ≡ true → o .head .poisoned ≡ head .poisoned
+    pub okPostings : isAccepted (o .answer) ≡ true → (p : Posting) → present p (postingsLeft o) ≡ (present p (postingsBefore head table) && not (present p (postingsOf (recorded (changesOf c) (c .recordList)))))
+    pub errors : Errors o
+    pub removedOnly : RemovedOnly (postingsBefore head table) (postingsLeft o) (postingsOf (recorded (changesOf c) (c .recordList)))
+
+  -- prepare_index_destinations
+  pub record PrepareClauses (o : Outcome) : Type 0 where
+    pub requiresValid : isAccepted (o .answer) ≡ true → Valid
+    pub requiresUnique : isAccepted (o .answer) ≡ true → UniqueDestinations
+    pub requiresDisjoint : isAccepted (o .answer) ≡ true → Disjoint
+    pub stable : Stable head table o
+    pub okFlag : isAccepted (o .answer) ≡ true → o .head .poisoned ≡ head .poisoned
+    pub okPostings : isAccepted (o .answer) ≡ true → (p : Posting) → present p (postingsLeft o) ≡ (present p (postingsBefore head table) || present p (postingsOf (destinations (changesOf c))))
+    pub okRecord : isAccepted (o .answer) ≡ true → o .recordList ≡ written (numbersOf (destinations (changesOf c))) (c .recordList)
+    pub okNamed : isAccepted (o .answer) ≡ true → o .answer ≡ Answer.Accepted (length (numbersOf (destinations (changesOf c))))
+    pub errors : Errors o
+    pub keeps : (p : Posting) → present p (postingsBefore head table) ≡ true → present p (postingsLeft o) ≡ true
+    pub inside : (p : Posting) → present p (postingsLeft o) ≡ true → (present p (postingsBefore head table) || present p (postingsOf (destinations (changesOf c)))) ≡ true
+
+  -- remove_index_sources
+  pub record RemovalClauses (o : Outcome) : Type 0 where
+    pub requiresValid : isAccepted (o .answer) ≡ true → Valid
+    pub stable : Stable head table o
+    pub okFlag : isAccepted (o .answer) ≡ true → o .head .poisoned ≡ head .poisoned
+    pub okPostings : isAccepted (o .answer) ≡ true → (p : Posting) → present p (postingsLeft o) ≡ (present p (postingsBefore head table) && not (present p (postingsOf (sources (changesOf c)))))
+    pub errors : Errors o
+    pub removedOnly : RemovedOnly (postingsBefore head table) (postingsLeft o) (postingsOf (sources (changesOf c)))
+
+-- prefix_record, of the record that an accepted prepare writes
+pub record PrefixRecord (cs : List Change) (ns : List ℕ) : Type 0 where
+  -- valid_indices and its bound: rollback takes it
+  pub indices : recordFrom 0 cs [] ns ≡ Verdict.Passes
+  -- it ascends, so the order is fixed and nothing stands twice
+  pub ascends : rising 0 ns ≡ true
+  -- it holds exactly the changes that have an after
+  pub contains : (j : ℕ) → among j ns ≡ recordable cs j
+  -- and what it names are the destinations, in their order
+  pub names : recorded cs ns ≡ destinations cs
