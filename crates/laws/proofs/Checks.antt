@@ -45,6 +45,10 @@ pub rest-passes : (v : Verdict) (vs : List Verdict) → firstRefusal (v ∷ vs) 
 unfolding firstRefusal
 rest-passes v vs h = else-second v (firstRefusal vs) h
 
+pub none-left : firstRefusal [] ≡ Verdict.Passes
+unfolding firstRefusal
+none-left = refl
+
 pub cons-passes : (v : Verdict) (vs : List Verdict) → v ≡ Verdict.Passes → firstRefusal vs ≡ Verdict.Passes → firstRefusal (v ∷ vs) ≡ Verdict.Passes
 unfolding firstRefusal
 cons-passes v vs h k = rw (h, k)

@@ -9,3 +9,4 @@ pub mod Publication
 pub mod Calls
 pub mod Trial
 pub mod Letters
+pub mod Examples

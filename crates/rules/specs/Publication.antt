@@ -52,7 +52,7 @@ unfoldable pub preparing : ℕ → List ℕ → List Numbered → List Numbered 
 preparing capacity strip [] done read ps = record { answer = Answer.Accepted (length done); postings = ps; read = read }
 preparing capacity strip (d ∷ ds) done read ps =
     byFault (insertion (byteAt strip read) capacity (d .posting) ps .fault) (d .number)
-    (undoing strip done Verdict.Passes (read + 1) ps)
+    (undoing strip done Verdict.Passes (read + 1) (insertion (byteAt strip read) capacity (d .posting) ps .postings))
     (preparing capacity strip ds (d ∷ done) (read + 1) (insertion (byteAt strip read) capacity (d .posting) ps .postings))
 
 -- source removal goes up the sources and stops at the first failure; the answer is this one where none failed

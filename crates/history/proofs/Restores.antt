@@ -1,0 +1,150 @@
+-- A clean rollback of an accepted prepare restores table and head exactly. The caller lends the part of its record list that
+-- prepare named.
+use Prim.Native.Nat.{ℕ, _+_, _≤_, _<_}
+use native.Mathlib.Nat.{zero-add}
+use native.Mathlib.Omega.{arith}
+use mathlib.Core.Path.{_≡_, refl, sym, ap, _∙_}
+use mathlib.Core.List.{List, [], _∷_, _++_, reverse}
+use mathlib.Core.Bool.{Bool, true, false, cond}
+use mathlib.Core.Logic.{_⊎_, inl, inr, ⊎-elim}
+use lib.ListN.{length, take, drop, length-map, length-reverse}
+use lib.Seq.{take-at}
+use lib.Dec.{eqb}
+use borrow.Author.Tests.{eq-eqb}
+use Rattle.rules.specs.declared.Posting.{Posting}
+use Rattle.rules.specs.declared.Head.{Head}
+use Rattle.rules.specs.declared.Answer.{Answer}
+use Rattle.rules.specs.declared.Verdict.{Verdict}
+use Rattle.rules.specs.Table.{capacity, postings, laidOut, wellFormed}
+use Rattle.rules.specs.Orders.{Numbered, properStrip, destinations, numbersOf, recorded}
+use Rattle.rules.specs.Answers.{isAccepted, poisons, settled}
+use Rattle.rules.specs.Checks.{Call, changesOf, tableCheck, poisonCheck, listCheck, stripCheck, guardCheck, recordCheck, recordFrom, prepareChecks, rollbackChecks}
+use Rattle.rules.specs.Publication.{Undone, undoing, Stage, rolledBack}
+use Rattle.rules.specs.Calls.{Outcome, asBefore, shown, written, prepareOf, rollbackOf}
+use Rattle.laws.specs.Words.{added, takenAway, Quiet}
+use Rattle.laws.proofs.Flat.{well-formed-parts, used-postings, laid-out-same}
+use Rattle.laws.proofs.Undo.{UndoClean, UndoFailed}
+use Rattle.laws.proofs.Checks.{first-passes, rest-passes, cons-passes, none-left, Clear, prepare-clear}
+use Rattle.laws.proofs.Calls.{prepare-well-formed, prepare-stable}
+use Rattle.laws.proofs.Records.{recorded-numbers, record-taken, added-back}
+use Rattle.laws.proofs.Outcomes.{RollsBack, rolls-back, undid, recordedBack}
+use Rattle.history.specs.Upstream.{postingsBefore, postingsLeft}
+use Rattle.history.proofs.Upstream.{PreparedWell, prepare-accepted}
+
+-- the rollback call for a prepare: the same changes and guards, and the part of the record list that was named
+abbrev pub backOf : Head → List ℕ → Call → List ℕ → Call
+backOf head table c strip =
+    record {
+      changeList = c .changeList;
+      guardList = c .guardList;
+      strip = strip;
+      recordList = take (length (destinations (changesOf c))) (prepareOf head table c .recordList);
+    }
+
+module _ (head : Head) (table : List ℕ) (c : Call) (strip : List ℕ) (ok : isAccepted (prepareOf head table c .answer) ≡ true) where
+  well : PreparedWell head table c (prepareOf head table c)
+  well = prepare-accepted head table c ok
+
+  clear : Clear head table c
+  clear = prepare-clear head table c (well .passes)
+
+  -- the part that is lent is the record itself
+  part-record : backOf head table c strip .recordList ≡ numbersOf (destinations (changesOf c))
+  part-record =
+      ap (λ (o : Outcome). take (length (destinations (changesOf c))) (o .recordList)) (well .whole)
+      ∙ take-at (numbersOf (destinations (changesOf c))) (drop (length (numbersOf (destinations (changesOf c)))) (c .recordList))
+      (length (destinations (changesOf c)))
+      (length-map (destinations (changesOf c)) (λ (d : Numbered). d .number))
+
+  healthy : prepareOf head table c .head .poisoned ≡ head .poisoned
+  healthy = prepare-stable head table c .flag ∙ rw (well .named)
+
+  record-passes : recordCheck (backOf head table c strip) ≡ Verdict.Passes
+  unfolding recordCheck
+  record-passes = rw part-record (record-taken (changesOf c))
+
+  table-passes : tableCheck (prepareOf head table c .head) (prepareOf head table c .table) ≡ Verdict.Passes
+  unfolding tableCheck
+  table-passes = rw (prepare-well-formed head table c (clear .formed))
+
+  poison-passes : poisonCheck (prepareOf head table c .head) ≡ Verdict.Passes
+  unfolding poisonCheck
+  poison-passes = rw (eq-eqb (prepareOf head table c .head .poisoned) 0 (healthy ∙ clear .healthy))
+
+  list-passes : listCheck c ≡ Verdict.Passes → listCheck (backOf head table c strip) ≡ Verdict.Passes
+  unfolding listCheck
+  list-passes h = h
+
+  strip-passes : properStrip strip ≡ true → stripCheck (backOf head table c strip) ≡ Verdict.Passes
+  unfolding stripCheck
+  strip-passes h = rw h
+
+  guard-passes : guardCheck head c ≡ Verdict.Passes → guardCheck (prepareOf head table c .head) (backOf head table c strip) ≡ Verdict.Passes
+  unfolding guardCheck
+  guard-passes h = rw (prepare-stable head table c .bindings) h
+
+  checks-pass : properStrip strip ≡ true → prepareChecks head table c ≡ Verdict.Passes → rollbackChecks (prepareOf head table c .head) (prepareOf head table c .table) (backOf head table c strip) ≡ Verdict.Passes
+  unfolding prepareChecks rollbackChecks
+  checks-pass s h1 =
+      let h3 = rest-passes _ _ (rest-passes _ _ h1) in
+      let h6 = rest-passes _ _ (rest-passes _ _ (rest-passes _ _ h3)) in
+      cons-passes _ _ table-passes
+      (cons-passes _ _ poison-passes
+      (cons-passes _ _ (list-passes (first-passes _ _ h3))
+      (cons-passes _ _ (strip-passes s)
+      (cons-passes _ _ (guard-passes (first-passes _ _ h6)) (cons-passes _ _ record-passes none-left)))))
+
+  -- what the rollback undoes, and what that leaves
+  undoes : recordedBack (prepareOf head table c .head) (prepareOf head table c .table) (backOf head table c strip) ≡ reverse (destinations (changesOf c))
+  undoes = ap (λ l. reverse (recorded (changesOf c) l)) part-record ∙ ap reverse (recorded-numbers (changesOf c))
+
+  taken-back : takenAway (reverse (destinations (changesOf c))) (postingsLeft (prepareOf head table c)) ≡ postingsBefore head table
+  taken-back =
+      ap (takenAway (reverse (destinations (changesOf c)))) (well .postings)
+      ∙ added-back (destinations (changesOf c)) (postingsBefore head table) (clear .fresh)
+
+  -- shown again, the postings before are the table before
+  shown-before : (list : List ℕ) (s : Stage) → s .answer ≡ Answer.Accepted 0 → s .postings ≡ postingsBefore head table → shown (prepareOf head table c .head) (prepareOf head table c .table) list s ≡ asBefore head table list (Answer.Accepted 0)
+  shown-before list s a e =
+      let w = well-formed-parts head table (clear .formed) in
+      let k = prepare-stable head table c in
+      let u : length (s .postings) ≡ head .used = ap length e ∙ used-postings head table w in
+      let p : cond (poisons (s .answer)) 1 (prepareOf head table c .head .poisoned) ≡ head .poisoned = rw a healthy in
+      let t : laidOut (length (prepareOf head table c .table)) (s .postings) ≡ table = rw (k .size, e) (laid-out-same head table w) in
+      λ i.
+      record {
+        answer = a i;
+        head = record { bindings = k .bindings i; used = u i; poisoned = p i };
+        table = t i;
+        recordList = list;
+      }
+
+  -- CLEAN UNDO: table and head are those from before the prepare, number for number
+  pub rollback-restores : properStrip strip ≡ true → Quiet strip 0 (length (destinations (changesOf c))) → rollbackOf (prepareOf head table c .head) (prepareOf head table c .table) (backOf head table c strip) ≡ asBefore head table (backOf head table c strip .recordList) (Answer.Accepted 0)
+  rollback-restores s q = go (rollbackOf ohead otable back) (rolls-back ohead otable back)
+    where
+      ohead : Head
+      ohead = prepareOf head table c .head
+
+      otable : List ℕ
+      otable = prepareOf head table c .table
+
+      back : Call
+      back = backOf head table c strip
+
+      as-many : length (recordedBack ohead otable back) ≡ length (destinations (changesOf c))
+      as-many = ap length undoes ∙ length-reverse (destinations (changesOf c))
+
+      go : (o : Outcome) → RollsBack ohead otable back o → o ≡ asBefore head table (back .recordList) (Answer.Accepted 0)
+      go o (RollsBack.refused a e k) =
+          let p = checks-pass s (well .passes) in
+          let z : _≡_ {A = ℕ} 0 1 = cc in
+          absurd (omega arith)
+      go o (RollsBack.clean e r k) =
+          k
+          ∙ shown-before (back .recordList) (rolledBack (undid ohead otable back)) (ap (λ v. settled v (Answer.Accepted 0)) (r .verdict))
+          (r .leaves ∙ (ap (λ l. takenAway l (postings (ohead .used) otable)) undoes ∙ taken-back))
+      go o (RollsBack.failed e r k) =
+          let t = r .there in
+          let n = as-many in
+          absurd (r .fault (q (0 + r .at) (omega arith) (omega arith)))
