@@ -1,36 +1,34 @@
 -- The acceptance law. The run of a publish shows how it ends; and how it ends is one thing only, so each answer is given exactly
 -- where its condition holds.
-use Prim.Native.Nat.{ℕ, zero, suc, _+_, _*_, _≤_, _<_}
+use Prim.Native.Nat.{ℕ, _+_, _≤_, _<_}
 use native.Mathlib.Nat.{zero-add}
 use native.Mathlib.Omega.{arith}
-use mathlib.Core.Path.{_≡_, refl, sym, ap, _∙_, subst}
-use mathlib.Core.List.{List, [], _∷_}
-use mathlib.Core.Bool.{Bool, true, false, cond, not, _&&_, _||_}
+use mathlib.Core.Path.{_≡_, refl, ap}
+use mathlib.Core.List.{List, []}
+use mathlib.Core.Bool.{true, false, not}
 use mathlib.Core.Logic.{_↔_, _⊎_, inl, inr, ⊎-elim}
 use lib.ListN.{length}
-use Rattle.rules.specs.declared.Posting.{Posting}
 use Rattle.rules.specs.declared.Head.{Head}
 use Rattle.rules.specs.declared.Answer.{Answer}
 use Rattle.rules.specs.declared.Verdict.{Verdict}
-use Rattle.rules.specs.Postings.{present, ascending}
-use Rattle.rules.specs.Table.{capacity, postings, laidOut, wellFormed}
-use Rattle.rules.specs.Orders.{Numbered, byteAt, destinations, sources, postingsOf, numbersOf}
-use Rattle.rules.specs.Answers.{isAccepted, poisons}
-use Rattle.rules.specs.Checks.{Call, changesOf, prepareChecks, rollbackChecks, removalChecks, publishChecks}
-use Rattle.rules.specs.Calls.{Outcome, asBefore, written, prepared, prepareOf, rollbackOf, removalOf, publishOf}
-use Rattle.laws.specs.Words.{added, takenAway, numberAt, Quiet, Noisy, isRefusal}
+use Rattle.rules.specs.Postings.{ascending}
+use Rattle.rules.specs.Table.{capacity, postings, laidOut}
+use Rattle.rules.specs.Orders.{Numbered, byteAt, destinations, sources}
+use Rattle.rules.specs.Answers.{isAccepted}
+use Rattle.rules.specs.Checks.{Call, prepareChecks, rollbackChecks, removalChecks, publishChecks}
+use Rattle.rules.specs.Calls.{Outcome, prepared, prepareOf, rollbackOf, removalOf, publishOf}
+use Rattle.laws.specs.Words.{added, takenAway, numberAt, Quiet, Noisy}
 use Rattle.laws.proofs.Tests.{clash}
 use Rattle.laws.proofs.Ranks.{Tri, less, equal, more, tri}
-use Rattle.laws.proofs.Flat.{WellFormed, well-formed-parts, used-postings, postings-laid-out}
+use Rattle.laws.proofs.Flat.{well-formed-parts, used-postings, postings-laid-out}
 use Rattle.laws.proofs.Answers.{refusal-unchanged, unchanged-accepts-not}
 use Rattle.laws.proofs.Checks.{isProper, publish-proper, refuses, Clear, prepare-clear, publish-clear}
 use Rattle.laws.proofs.Undo.{quiet-join, not-quiet}
-use Rattle.laws.proofs.Prepare.{Ready, Cause, Stopped, TakenBack, LeftBehind}
-use Rattle.laws.proofs.Remove.{Cleared, Halted}
-use Rattle.laws.proofs.Outcomes.{start, going, leaving, recordedBack, stop-not-accepted, Published, published, Prepares, prepares, RollsBack, rolls-back, Removes, removes}
+use Rattle.laws.proofs.Prepare.{Cause, TakenBack, LeftBehind}
+use Rattle.laws.proofs.Outcomes.{IsReady, IsStopped, start, going, leaving, recordedBack, stop-not-accepted, Published, published, Prepares, prepares, RollsBack, rolls-back, Removes, removes}
 use Rattle.laws.proofs.Outcomes as outcome
 use Rattle.laws.proofs.Sets.{present-said, said-list}
-use Rattle.history.specs.Acceptance.{Acceptable, Fails, Ends, RollbackEnds, RemovalEnds, Answered, PublishAnswers, PrepareAnswers, RollbackAnswers, RemovalAnswers, saidOf, Leaves}
+use Rattle.history.specs.Acceptance.{Acceptable, Fails, Ends, RollbackEnds, RemovalEnds, Answered, PublishAnswers, PrepareAnswers, RollbackAnswers, RemovalAnswers, Leaves}
 
 module _ (capacity used : ℕ) (strip : List ℕ) (ds ss : List Numbered) where
   -- the first insertion to fail is one
@@ -158,10 +156,10 @@ module _ (head : Head) (table : List ℕ) (c : Call) where
   used-start : Clear head table c → length (start head table c) ≡ head .used
   used-start k = used-postings head table (well-formed-parts head table (k .formed))
 
-  ready-room : Clear head table c → Ready (capacity table) (c .strip) (going head table c) [] 0 (start head table c) (prepared head table c) → head .used + length (going head table c) ≤ capacity table
+  ready-room : Clear head table c → IsReady head table c → head .used + length (going head table c) ≤ capacity table
   ready-room k r = let u = used-start k in let l = r .room in omega arith
 
-  stopped-fails : Clear head table c → (s : Stopped (capacity table) (c .strip) (start head table c) (going head table c) 0 0 (length (start head table c)) (prepared head table c)) → (byteAt (c .strip) (s .at) ≡ 0 → ⊥) ⊎ (head .used + s .at ≡ capacity table) → Fails (capacity table) (head .used) (c .strip) (going head table c) (s .at)
+  stopped-fails : Clear head table c → (s : IsStopped head table c) → (byteAt (c .strip) (s .at) ≡ 0 → ⊥) ⊎ (head .used + s .at ≡ capacity table) → Fails (capacity table) (head .used) (c .strip) (going head table c) (s .at)
   stopped-fails k s f =
       record {
         there = s .there;
@@ -171,7 +169,7 @@ module _ (head : Head) (table : List ℕ) (c : Call) where
       }
 
   -- the insertion that stopped prepare is the first to fail, and its undo is clean or not
-  stopped-ends : (ss : List Numbered) → Clear head table c → Stopped (capacity table) (c .strip) (start head table c) (going head table c) 0 0 (length (start head table c)) (prepared head table c) → Ends (capacity table) (head .used) (c .strip) (going head table c) ss (prepared head table c .answer)
+  stopped-ends : (ss : List Numbered) → Clear head table c → IsStopped head table c → Ends (capacity table) (head .used) (c .strip) (going head table c) ss (prepared head table c .answer)
   stopped-ends ss k s = go (s .why) (s .cause) (s .undo)
     where
       z : 0 + s .at ≡ s .at
@@ -188,7 +186,7 @@ module _ (head : Head) (table : List ℕ) (c : Call) where
           ⊎-elim (λ t. rw (t .answers) (Ends.full (s .at) f (rw z at b) (rw z at (t .quiet)))) (λ l. rw (l .answers) (Ends.undo (s .at) f (rw z at (l .noisy)))) u
 
   -- the bytes of all insertions, and then those of source removals
-  ready-quiet : (n : ℕ) → Ready (capacity table) (c .strip) (going head table c) [] 0 (start head table c) (prepared head table c) → Quiet (c .strip) (length (going head table c)) (length (going head table c) + n) → Quiet (c .strip) 0 (length (going head table c) + n)
+  ready-quiet : (n : ℕ) → IsReady head table c → Quiet (c .strip) (length (going head table c)) (length (going head table c) + n) → Quiet (c .strip) 0 (length (going head table c) + n)
   ready-quiet n r q =
       quiet-join (c .strip) 0 (length (going head table c)) (length (going head table c) + n) (λ i h k. r .quiet i h (omega arith)) q
 

@@ -1,11 +1,10 @@
 -- Demand 3. Each publish either leaves the index as it was, or is accepted and leaves what it says, or breaks it; by induction
 -- over the calls that makes the history right until it is withheld.
-use Prim.Native.Nat.{ℕ, zero, suc, _+_, _*_, _≤_, _<_}
+use Prim.Native.Nat.{ℕ}
 use native.Mathlib.Omega.{arith}
 use mathlib.Core.Path.{_≡_, refl, sym, ap, _∙_}
 use mathlib.Core.List.{List, [], _∷_, _++_, map}
 use mathlib.Core.Bool.{Bool, true, false, cond, not, _&&_}
-use mathlib.Core.Logic.{_⊎_, inl, inr, ⊎-elim}
 use lib.ListN.{length}
 use lib.Dec.{eqb, ltb}
 use borrow.Author.Tests.{eq-eqb, ne-eqb, not-true}
@@ -14,18 +13,17 @@ use Rattle.rules.specs.declared.Head.{Head}
 use Rattle.rules.specs.declared.Answer.{Answer}
 use Rattle.rules.specs.declared.Verdict.{Verdict}
 use Rattle.rules.specs.Postings.{every, counted}
-use Rattle.rules.specs.Table.{capacity, postings, laidOut, wellFormed}
-use Rattle.rules.specs.Orders.{properStrip, destinations, sources, numbersOf}
+use Rattle.rules.specs.Table.{postings, wellFormed}
+use Rattle.rules.specs.Orders.{properStrip, destinations, sources}
 use Rattle.rules.specs.Answers.{isAccepted, poisons, settled}
 use Rattle.rules.specs.Checks.{Call, changesOf, must, orElse, firstRefusal, tableCheck, poisonCheck, listCheck, stripCheck, roomCheck, guardCheck, twiceCheck, presentCheck, overlapCheck, publishChecks, countChecks}
-use Rattle.rules.specs.Calls.{Outcome, asBefore, decided, headAfter, shown, written, publishOf, countOf}
-use Rattle.laws.specs.Words.{added, takenAway, Quiet, isUnchanged}
+use Rattle.rules.specs.Calls.{Outcome, asBefore, publishOf, countOf}
+use Rattle.laws.specs.Words.{added, takenAway}
 use Rattle.laws.proofs.Tests.{clash, and-left, and-right}
-use Rattle.laws.proofs.Flat.{WellFormed, well-formed-parts, used-postings, laid-out-same, postings-laid-out}
+use Rattle.laws.proofs.Flat.{well-formed-parts, used-postings, laid-out-same, postings-laid-out}
 use Rattle.laws.proofs.Answers.{Kind, kind}
 use Rattle.laws.proofs.Checks.{first-passes, rest-passes, cons-passes}
 use Rattle.laws.proofs.Calls.{publish-as-before, publish-well-formed, publish-stable}
-use Rattle.laws.proofs.Outcomes as outcome
 use Rattle.history.specs.Acceptance.{Acceptable}
 use Rattle.history.specs.History.{Index, published, countedIn, left, after, outcomes, unbroken, accepted, acceptedOutcomes, said, holding, quiet, Empty, Alike, Right, Withheld, Demand}
 use Rattle.history.proofs.Acceptance.{accepted-exactly, acceptable-outcome}

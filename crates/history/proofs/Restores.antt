@@ -1,29 +1,24 @@
 -- A clean rollback of an accepted prepare restores table and head exactly. The caller lends the part of its record list that
 -- prepare named.
-use Prim.Native.Nat.{ℕ, _+_, _≤_, _<_}
-use native.Mathlib.Nat.{zero-add}
+use Prim.Native.Nat.{ℕ, _+_}
 use native.Mathlib.Omega.{arith}
-use mathlib.Core.Path.{_≡_, refl, sym, ap, _∙_}
-use mathlib.Core.List.{List, [], _∷_, _++_, reverse}
-use mathlib.Core.Bool.{Bool, true, false, cond}
-use mathlib.Core.Logic.{_⊎_, inl, inr, ⊎-elim}
+use mathlib.Core.Path.{_≡_, ap, _∙_}
+use mathlib.Core.List.{List, reverse}
+use mathlib.Core.Bool.{true, cond}
 use lib.ListN.{length, take, drop, length-map, length-reverse}
 use lib.Seq.{take-at}
-use lib.Dec.{eqb}
 use borrow.Author.Tests.{eq-eqb}
-use Rattle.rules.specs.declared.Posting.{Posting}
 use Rattle.rules.specs.declared.Head.{Head}
 use Rattle.rules.specs.declared.Answer.{Answer}
 use Rattle.rules.specs.declared.Verdict.{Verdict}
-use Rattle.rules.specs.Table.{capacity, postings, laidOut, wellFormed}
+use Rattle.rules.specs.Table.{postings, laidOut}
 use Rattle.rules.specs.Orders.{Numbered, properStrip, destinations, numbersOf, recorded}
 use Rattle.rules.specs.Answers.{isAccepted, poisons, settled}
-use Rattle.rules.specs.Checks.{Call, changesOf, tableCheck, poisonCheck, listCheck, stripCheck, guardCheck, recordCheck, recordFrom, prepareChecks, rollbackChecks}
-use Rattle.rules.specs.Publication.{Undone, undoing, Stage, rolledBack}
-use Rattle.rules.specs.Calls.{Outcome, asBefore, shown, written, prepareOf, rollbackOf}
-use Rattle.laws.specs.Words.{added, takenAway, Quiet}
+use Rattle.rules.specs.Checks.{Call, changesOf, tableCheck, poisonCheck, listCheck, stripCheck, guardCheck, recordCheck, prepareChecks, rollbackChecks}
+use Rattle.rules.specs.Publication.{Stage, rolledBack}
+use Rattle.rules.specs.Calls.{Outcome, asBefore, shown, prepareOf, rollbackOf}
+use Rattle.laws.specs.Words.{takenAway, Quiet}
 use Rattle.laws.proofs.Flat.{well-formed-parts, used-postings, laid-out-same}
-use Rattle.laws.proofs.Undo.{UndoClean, UndoFailed}
 use Rattle.laws.proofs.Checks.{first-passes, rest-passes, cons-passes, none-left, Clear, prepare-clear}
 use Rattle.laws.proofs.Calls.{prepare-well-formed, prepare-stable}
 use Rattle.laws.proofs.Records.{recorded-numbers, record-taken, added-back}

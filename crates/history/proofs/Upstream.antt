@@ -1,11 +1,10 @@
 -- Upstream's clauses hold of every outcome, and prepare and rollback undo each other exactly.
-use Prim.Native.Nat.{ℕ, zero, suc, _+_, _*_, _≤_, _<_}
+use Prim.Native.Nat.{ℕ}
 use native.Mathlib.Nat.{zero-add}
-use native.Mathlib.Omega.{arith}
 use mathlib.Core.Path.{_≡_, refl, sym, ap, _∙_}
-use mathlib.Core.List.{List, [], _∷_, reverse, map}
-use mathlib.Core.Bool.{Bool, true, false, cond, not, _&&_, _||_}
-use mathlib.Core.Logic.{_⊎_, inl, inr, ⊎-elim}
+use mathlib.Core.List.{List, []}
+use mathlib.Core.Bool.{true, false, cond, not, _&&_, _||_}
+use mathlib.Core.Logic.{⊎-elim}
 use lib.ListN.{length, length-map}
 use Rattle.rules.specs.declared.Posting.{Posting}
 use Rattle.rules.specs.declared.Change.{Change}
@@ -13,26 +12,26 @@ use Rattle.rules.specs.declared.Head.{Head}
 use Rattle.rules.specs.declared.Answer.{Answer}
 use Rattle.rules.specs.declared.Verdict.{Verdict}
 use Rattle.rules.specs.Postings.{every, present}
-use Rattle.rules.specs.Table.{capacity, postings, laidOut, wellFormed}
-use Rattle.rules.specs.Orders.{Numbered, properStrip, destinations, sources, postingsOf, numbersOf, recorded}
-use Rattle.rules.specs.Answers.{isAccepted, poisons, settled}
-use Rattle.rules.specs.Checks.{Call, changesOf, tableCheck, poisonCheck, listCheck, stripCheck, guardCheck, recordCheck, twiceCheck, presentCheck, prepareChecks, rollbackChecks, removalChecks}
-use Rattle.rules.specs.Publication.{Undone, undoing, Stage, removing, rolledBack}
-use Rattle.rules.specs.Calls.{Outcome, asBefore, decided, headAfter, shown, written, prepared, prepareOf, rollbackOf, removalOf}
-use Rattle.laws.specs.Words.{added, takenAway, Quiet, RemovedOnly, Stable, isUnchanged}
+use Rattle.rules.specs.Table.{capacity, postings, laidOut}
+use Rattle.rules.specs.Orders.{Numbered, destinations, sources, postingsOf, numbersOf, recorded}
+use Rattle.rules.specs.Answers.{isAccepted, poisons}
+use Rattle.rules.specs.Checks.{Call, changesOf, prepareChecks, rollbackChecks, removalChecks}
+use Rattle.rules.specs.Publication.{Stage, rolledBack}
+use Rattle.rules.specs.Calls.{Outcome, asBefore, decided, shown, written, prepared, prepareOf, rollbackOf, removalOf}
+use Rattle.laws.specs.Words.{added, takenAway, RemovedOnly, Stable, isUnchanged}
 use Rattle.laws.proofs.Tests.{clash}
-use Rattle.laws.proofs.Flat.{well-formed-parts, used-postings, laid-out-same, postings-laid-out}
+use Rattle.laws.proofs.Flat.{postings-laid-out}
 use Rattle.laws.proofs.Answers.{Kind, kind, refusal-unchanged, unchanged-accepts-not}
 use Rattle.laws.proofs.Steps.{removed-only-same}
 use Rattle.laws.proofs.Undo.{undo-removes}
-use Rattle.laws.proofs.Prepare.{Ready, Stopped, prepare-inside}
-use Rattle.laws.proofs.Remove.{Cleared, Halted, remove-removes}
-use Rattle.laws.proofs.Checks.{isProper, prepare-proper, rollback-proper, removal-proper, refuses, first-passes, rest-passes, cons-passes, Clear, prepare-clear}
+use Rattle.laws.proofs.Prepare.{prepare-inside}
+use Rattle.laws.proofs.Remove.{remove-removes}
+use Rattle.laws.proofs.Checks.{isProper, prepare-proper, rollback-proper, removal-proper, refuses, first-passes, rest-passes}
 use Rattle.laws.proofs.Names.{guard-passes, twice-passes, present-passes, record-passes}
-use Rattle.laws.proofs.Calls.{prepare-as-before, rollback-as-before, removal-as-before, prepare-stable, rollback-stable, removal-stable, prepare-well-formed}
-use Rattle.laws.proofs.Records.{recorded-numbers, rising-numbers, among-numbers, record-taken, added-back, present-reverse}
+use Rattle.laws.proofs.Calls.{prepare-as-before, rollback-as-before, removal-as-before, prepare-stable, rollback-stable, removal-stable}
+use Rattle.laws.proofs.Records.{recorded-numbers, rising-numbers, among-numbers, record-taken, present-reverse}
 use Rattle.laws.proofs.Sets.{present-added, present-taken-away}
-use Rattle.laws.proofs.Outcomes.{start, going, leaving, recordedBack, undid, removedAlone, stop-not-accepted, Prepares, prepares, RollsBack, rolls-back, Removes, removes}
+use Rattle.laws.proofs.Outcomes.{going, leaving, recordedBack, undid, removedAlone, stop-not-accepted, Prepares, prepares, RollsBack, rolls-back, Removes, removes}
 use Rattle.history.specs.Upstream.{postingsBefore, postingsLeft, Valid, UniqueDestinations, Disjoint, ValidIndices, Errors, RollbackClauses, PrepareClauses, RemovalClauses, PrefixRecord}
 
 pub prefix-record : (cs : List Change) → PrefixRecord cs (numbersOf (destinations cs))

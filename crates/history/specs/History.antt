@@ -1,6 +1,6 @@
 -- Demand 3: a table that only publish calls write. All words here are over the rules of one publish and one count; there is no
 -- second model.
-use Prim.Native.Nat.{ℕ, zero}
+use Prim.Native.Nat.{ℕ}
 use mathlib.Core.Path.{_≡_}
 use mathlib.Core.List.{List, [], _∷_, _++_, map}
 use mathlib.Core.Bool.{Bool, true, false, cond, not, _&&_}

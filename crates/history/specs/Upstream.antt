@@ -2,9 +2,8 @@
 -- checked here and refused; so it holds wherever a call is accepted.
 use Prim.Native.Nat.{ℕ, _<_}
 use mathlib.Core.Path.{_≡_}
-use mathlib.Core.List.{List, [], _∷_}
-use mathlib.Core.Bool.{Bool, true, false, not, _&&_, _||_}
-use mathlib.Core.Logic.{_⊎_}
+use mathlib.Core.List.{List, []}
+use mathlib.Core.Bool.{true, false, not, _&&_, _||_}
 use lib.ListN.{length, getD}
 use Rattle.rules.specs.declared.Posting.{Posting}
 use Rattle.rules.specs.declared.Head.{Head}
@@ -13,7 +12,7 @@ use Rattle.rules.specs.declared.Change.{Change}
 use Rattle.rules.specs.declared.Verdict.{Verdict}
 use Rattle.rules.specs.Postings.{present}
 use Rattle.rules.specs.Table.{postings}
-use Rattle.rules.specs.Orders.{Numbered, guards, destinations, sources, postingsOf, numbersOf, noChange, recorded}
+use Rattle.rules.specs.Orders.{guards, destinations, sources, postingsOf, numbersOf, noChange, recorded}
 use Rattle.rules.specs.Answers.{isAccepted, poisons}
 use Rattle.rules.specs.Checks.{Call, changesOf, guarded, recordable, among, recordFrom}
 use Rattle.rules.specs.Calls.{Outcome, asBefore, written}

@@ -1,31 +1,29 @@
 -- The calls as wholes: an answer of 1 to 11 or 14 leaves table, head and record as before, for any head and table; and a table
 -- that is well formed stays so, whatever is answered.
-use Prim.Native.Nat.{ℕ, zero, suc, _+_, _≤_, _<_}
+use Prim.Native.Nat.{ℕ, _≤_}
 use native.Mathlib.Omega.{arith}
 use mathlib.Core.Path.{_≡_, refl, sym, ap, _∙_}
-use mathlib.Core.List.{List, [], _∷_, reverse}
-use mathlib.Core.Bool.{Bool, true, false, cond}
-use mathlib.Core.Logic.{_⊎_, inl, inr, ⊎-elim}
+use mathlib.Core.List.{List, []}
+use mathlib.Core.Bool.{true, false}
+use mathlib.Core.Logic.{⊎-elim}
 use lib.ListN.{length}
-use Rattle.rules.specs.declared.Posting.{Posting}
 use Rattle.rules.specs.declared.Head.{Head}
 use Rattle.rules.specs.declared.Answer.{Answer}
 use Rattle.rules.specs.declared.Verdict.{Verdict}
-use Rattle.rules.specs.Table.{capacity, postings, laidOut, wellFormed}
-use Rattle.rules.specs.Orders.{Numbered, destinations, sources, recorded}
+use Rattle.rules.specs.Table.{capacity, postings, wellFormed}
 use Rattle.rules.specs.Answers.{isAccepted, poisons, settled}
-use Rattle.rules.specs.Checks.{Call, changesOf, prepareChecks, rollbackChecks, removalChecks, publishChecks}
-use Rattle.rules.specs.Publication.{Undone, undoing, Stage, preparing, removing, rolledBack, thenSources}
-use Rattle.rules.specs.Calls.{Outcome, asBefore, decided, headAfter, shown, recordAfter, prepared, prepareOf, rollbackOf, removalOf, publishOf}
+use Rattle.rules.specs.Checks.{Call, prepareChecks, rollbackChecks, removalChecks, publishChecks}
+use Rattle.rules.specs.Publication.{Stage, rolledBack, thenSources}
+use Rattle.rules.specs.Calls.{Outcome, asBefore, decided, headAfter, shown, prepared, prepareOf, rollbackOf, removalOf, publishOf}
 use Rattle.laws.specs.Words.{isUnchanged, Stable}
 use Rattle.laws.proofs.Tests.{by-cases, clash}
-use Rattle.laws.proofs.Flat.{WellFormed, well-formed-parts, Sound, sound-postings, well-formed-laid-out, length-laid-out}
-use Rattle.laws.proofs.Undo.{UndoClean, UndoFailed, undo-runs, undo-sound}
-use Rattle.laws.proofs.Prepare.{Ready, Stopped, TakenBack, LeftBehind, prepare-sound}
-use Rattle.laws.proofs.Remove.{Cleared, Halted, remove-runs, remove-sound}
+use Rattle.laws.proofs.Flat.{well-formed-parts, Sound, sound-postings, well-formed-laid-out, length-laid-out}
+use Rattle.laws.proofs.Undo.{undo-sound}
+use Rattle.laws.proofs.Prepare.{prepare-sound}
+use Rattle.laws.proofs.Remove.{remove-sound}
 use Rattle.laws.proofs.Checks.{isProper, prepare-proper, rollback-proper, removal-proper, publish-proper, Clear, prepare-clear, publish-clear, rollback-formed, removal-formed}
 use Rattle.laws.proofs.Answers.{refusal-unchanged, unchanged-poisons-not}
-use Rattle.laws.proofs.Outcomes.{shown-same, cause-poisons-not, start, going, leaving, recordedBack, undid, removedAlone, prepared-runs, Published, published, Prepares, prepares, RollsBack, rolls-back, Removes, removes}
+use Rattle.laws.proofs.Outcomes.{shown-same, IsStopped, cause-poisons-not, start, going, leaving, recordedBack, undid, removedAlone, Published, published, Prepares, prepares, RollsBack, rolls-back, Removes, removes}
 
 -- an outcome as before has its own answer
 own-answer : (head : Head) (table list : List ℕ) (o : Outcome) (a : Answer) → o ≡ asBefore head table list a → o ≡ asBefore head table list (o .answer)
@@ -37,7 +35,7 @@ not-unchanged a b h e k = absurd (clash (isUnchanged b) (rw e at h) k)
 
 module _ (head : Head) (table : List ℕ) (c : Call) where
   -- where prepare stopped with an answer of these, all was taken back
-  stopped-same : Clear head table c → Stopped (capacity table) (c .strip) (start head table c) (going head table c) 0 0 (length (start head table c)) (prepared head table c) → isUnchanged (prepared head table c .answer) ≡ true → shown head table (c .recordList) (prepared head table c) ≡ asBefore head table (c .recordList) (prepared head table c .answer)
+  stopped-same : Clear head table c → IsStopped head table c → isUnchanged (prepared head table c .answer) ≡ true → shown head table (c .recordList) (prepared head table c) ≡ asBefore head table (c .recordList) (prepared head table c .answer)
   stopped-same k s h =
       ⊎-elim
       (λ b.

@@ -1,13 +1,13 @@
 -- The flat table and the postings that it means: a well-formed table is its postings laid out, and postings laid out are well
 -- formed.
-use Prim.Native.Nat.{ℕ, zero, suc, _+_, _-_, _*_, _/_, _%_, _≤_}
+use Prim.Native.Nat.{ℕ, zero, suc, _-_, _*_, _%_, _≤_}
 use native.Mathlib.Omega.{arith}
-use mathlib.Core.Path.{_≡_, refl, sym, ap, _∙_}
+use mathlib.Core.Path.{_≡_, refl, ap}
 use mathlib.Core.List.{List, [], _∷_, _++_}
-use mathlib.Core.Bool.{Bool, true, false, cond, _&&_}
-use lib.ListN.{length, take, drop, replicate, length-append, length-replicate, take-append-drop, length-drop, length-take}
+use mathlib.Core.Bool.{Bool, true}
+use lib.ListN.{length, take, drop, replicate, length-append, length-replicate, take-append-drop, length-drop}
 use lib.Seq.{take-append-seam, drop-at, length-take-le}
-use lib.Dec.{eqb, leb}
+use lib.Dec.{eqb}
 use borrow.Author.Tests.{eqb-true, leb-true, eq-eqb, le-leb}
 use Rattle.rules.specs.declared.Posting.{Posting}
 use Rattle.rules.specs.declared.Head.{Head}

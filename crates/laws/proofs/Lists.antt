@@ -1,5 +1,5 @@
 -- Insertion and removal in lists of postings, by what stands in them. Nothing here asks that a list ascends.
-use Prim.Native.Nat.{ℕ, suc, _≤_}
+use Prim.Native.Nat.{suc, _≤_}
 use native.Mathlib.Omega.{arith}
 use mathlib.Core.Path.{_≡_, refl, sym, ap, _∙_}
 use mathlib.Core.List.{List, [], _∷_}
@@ -9,7 +9,7 @@ use Rattle.rules.specs.declared.Posting.{Posting}
 use Rattle.rules.specs.declared.Order.{Order}
 use Rattle.rules.specs.Postings.{compared, isSame, same, present, placed, inserted, removed}
 use Rattle.laws.proofs.Tests.{clash, or-left, or-right, by-cases}
-use Rattle.laws.proofs.Ranks.{compared-same, same-equal, same-self, same-turned}
+use Rattle.laws.proofs.Ranks.{compared-same, same-equal, same-self}
 
 or-twice : (a b : Bool) → (a || b) ≡ (a || (a || b))
 or-twice true b = refl

@@ -1,22 +1,21 @@
 -- Each check that names something names the first, and where it passes nothing is bad.
-use Prim.Native.Nat.{ℕ, zero, suc, _+_, _≤_, _<_}
+use Prim.Native.Nat.{ℕ, zero, suc, _+_, _<_}
 use native.Mathlib.Nat.{zero-add}
 use native.Mathlib.Omega.{arith}
 use mathlib.Core.Path.{_≡_, refl, sym, ap, _∙_}
 use mathlib.Core.List.{List, [], _∷_, _++_}
 use mathlib.Core.Bool.{Bool, true, false, not, _&&_, _||_}
-use mathlib.Core.Logic.{_⊎_, inl, inr, ⊎-elim}
+use mathlib.Core.Logic.{_⊎_, inl, inr}
 use lib.ListN.{length, getD, length-append, List·getD-append}
 use lib.Seq.{getD-append-seam, append-snoc}
-use lib.Dec.{eqb, ltb}
-use borrow.Author.Tests.{eqb-true, eqb-false, eq-eqb, ne-eqb, ltb-true, ltb-false, not-true, not-false}
-use Rattle.rules.specs.declared.Posting.{Posting}
+use lib.Dec.{eqb}
+use borrow.Author.Tests.{eqb-true, eqb-false, not-true, not-false}
 use Rattle.rules.specs.declared.Change.{Change}
 use Rattle.rules.specs.declared.Guard.{Guard}
 use Rattle.rules.specs.declared.Head.{Head}
 use Rattle.rules.specs.declared.Answer.{Answer}
 use Rattle.rules.specs.declared.Verdict.{Verdict}
-use Rattle.rules.specs.Postings.{same, present}
+use Rattle.rules.specs.Postings.{present}
 use Rattle.rules.specs.Table.{postings}
 use Rattle.rules.specs.Orders.{Numbered, guards, destinations, sources, postingsOf, noChange}
 use Rattle.rules.specs.Checks.{Call, changesOf, must, orElse, firstFailing, guarded, guardCheck, recordable, among, recordFrom, recordCheck, equalTo, twiceFrom, twiceCheck, presentCheck, overlapCheck}
@@ -24,7 +23,7 @@ use Rattle.laws.specs.Words.{numberAt}
 use Rattle.laws.specs.Names.{nowhere, FirstAt, twins, FirstPair, Repeated, FirstBad}
 use Rattle.laws.proofs.Tests.{clash, and-left, and-right, or-left, or-right}
 use Rattle.laws.proofs.Lists.{or-swap}
-use Rattle.laws.proofs.Checks.{must-holds, else-first, else-second, failing-first, failing-rest}
+use Rattle.laws.proofs.Checks.{failing-first, failing-rest}
 
 -- where none fails
 pub failing-passes : {A : Type 0} (none : A) (test : A → Bool) (answer : ℕ → A → Answer) (i : ℕ) (xs : List A) → firstFailing test answer i xs ≡ Verdict.Passes → (k : ℕ) → k < length xs → test (getD xs k none) ≡ true

@@ -1,10 +1,10 @@
 -- How each call ends, seen on the lent table. Every law about whole calls goes by these cases.
-use Prim.Native.Nat.{ℕ, zero, suc, _+_, _*_, _≤_, _<_}
+use Prim.Native.Nat.{ℕ, _+_}
 use native.Mathlib.Omega.{arith}
-use mathlib.Core.Path.{_≡_, refl, sym, ap, _∙_}
-use mathlib.Core.List.{List, [], _∷_, reverse}
-use mathlib.Core.Bool.{Bool, true, false, cond}
-use mathlib.Core.Logic.{_⊎_, inl, inr, ⊎-elim}
+use mathlib.Core.Path.{_≡_, refl, ap, _∙_}
+use mathlib.Core.List.{List, [], reverse}
+use mathlib.Core.Bool.{true, false, cond}
+use mathlib.Core.Logic.{_⊎_, ⊎-elim}
 use lib.ListN.{length}
 use Rattle.rules.specs.declared.Posting.{Posting}
 use Rattle.rules.specs.declared.Head.{Head}
@@ -14,12 +14,12 @@ use Rattle.rules.specs.Table.{capacity, postings, laidOut, wellFormed}
 use Rattle.rules.specs.Orders.{Numbered, destinations, sources, numbersOf, recorded, byteAt}
 use Rattle.rules.specs.Answers.{isAccepted, poisons}
 use Rattle.rules.specs.Checks.{Call, changesOf, prepareChecks, rollbackChecks, removalChecks, publishChecks}
-use Rattle.rules.specs.Publication.{Undone, undoing, Stage, preparing, removing, rolledBack, thenSources}
-use Rattle.rules.specs.Calls.{Outcome, asBefore, decided, headAfter, shown, written, recordAfter, prepared, prepareOf, rollbackOf, removalOf, publishOf}
-use Rattle.laws.specs.Words.{added, takenAway, numberAt, Quiet, Noisy}
-use Rattle.laws.proofs.Flat.{WellFormed, well-formed-parts, used-postings, laid-out-same}
+use Rattle.rules.specs.Publication.{Undone, undoing, Stage, removing, rolledBack, thenSources}
+use Rattle.rules.specs.Calls.{Outcome, asBefore, decided, shown, written, recordAfter, prepared, prepareOf, rollbackOf, removalOf, publishOf}
+use Rattle.laws.specs.Words.{added, takenAway, numberAt}
+use Rattle.laws.proofs.Flat.{well-formed-parts, used-postings, laid-out-same}
 use Rattle.laws.proofs.Undo.{UndoClean, UndoFailed, undo-runs}
-use Rattle.laws.proofs.Prepare.{Fresh, Ready, Cause, store, full, TakenBack, LeftBehind, Stopped, prepare-runs}
+use Rattle.laws.proofs.Prepare.{Ready, Cause, store, full, Stopped, prepare-runs}
 use Rattle.laws.proofs.Remove.{Cleared, Halted, remove-runs}
 use Rattle.laws.proofs.Checks.{Clear, publish-clear, prepare-clear}
 
@@ -46,6 +46,13 @@ module _ (head : Head) (table : List ℕ) (c : Call) where
   abbrev pub leaving : List Numbered
   leaving = sources (changesOf c)
 
+  -- prepare has inserted every destination, or has stopped at one
+  abbrev pub IsReady : Type 0
+  IsReady = Ready (capacity table) (c .strip) going [] 0 start (prepared head table c)
+
+  abbrev pub IsStopped : Type 0
+  IsStopped = Stopped (capacity table) (c .strip) start going 0 0 (length start) (prepared head table c)
+
   -- what an accepted publish answers and leaves
   abbrev pub accepted : Outcome
   accepted =
@@ -58,19 +65,19 @@ module _ (head : Head) (table : List ℕ) (c : Call) where
 
   pub data Published (o : Outcome) : Type 0 where
     refused : (a : Answer) → publishChecks head table c ≡ Verdict.Refused a → o ≡ asBefore head table (c .recordList) a → Published o
-    taken : publishChecks head table c ≡ Verdict.Passes → Ready (capacity table) (c .strip) going [] 0 start (prepared head table c) → Cleared (c .strip) (Answer.Accepted (length going)) leaving (length going) (added going start) sourcesGone → o ≡ accepted → Published o
-    halted : publishChecks head table c ≡ Verdict.Passes → Ready (capacity table) (c .strip) going [] 0 start (prepared head table c) → Halted (c .strip) leaving (length going) sourcesGone → o ≡ shown head table (written (numbersOf going) (c .recordList)) sourcesGone → Published o
-    stopped : publishChecks head table c ≡ Verdict.Passes → Stopped (capacity table) (c .strip) start going 0 0 (length start) (prepared head table c) → o ≡ shown head table (c .recordList) (prepared head table c) → Published o
+    taken : publishChecks head table c ≡ Verdict.Passes → IsReady → Cleared (c .strip) (Answer.Accepted (length going)) leaving (length going) (added going start) sourcesGone → o ≡ accepted → Published o
+    halted : publishChecks head table c ≡ Verdict.Passes → IsReady → Halted (c .strip) leaving (length going) sourcesGone → o ≡ shown head table (written (numbersOf going) (c .recordList)) sourcesGone → Published o
+    stopped : publishChecks head table c ≡ Verdict.Passes → IsStopped → o ≡ shown head table (c .recordList) (prepared head table c) → Published o
 
   -- prepare's part: what it comes to where its checks pass
-  pub prepared-runs : Clear head table c → Ready (capacity table) (c .strip) going [] 0 start (prepared head table c) ⊎ Stopped (capacity table) (c .strip) start going 0 0 (length start) (prepared head table c)
+  pub prepared-runs : Clear head table c → IsReady ⊎ IsStopped
   prepared-runs k =
       let w = well-formed-parts head table (k .formed) in
       let u = used-postings head table w in
       let r = w .room in
       prepare-runs (capacity table) (c .strip) start going [] 0 start (k .fresh) refl (omega arith)
 
-  pub stop-not-accepted : Stopped (capacity table) (c .strip) start going 0 0 (length start) (prepared head table c) → isAccepted (prepared head table c .answer) ≡ false
+  pub stop-not-accepted : IsStopped → isAccepted (prepared head table c .answer) ≡ false
   stop-not-accepted s = ⊎-elim (λ b. rw (b .answers) (other (s .cause))) (λ b. rw (b .answers)) (s .undo)
     where
       other : Cause (byteAt (c .strip) (0 + s .at)) (length start + s .at) (capacity table) (numberAt going (s .at)) (s .why) → isAccepted (s .why) ≡ false
@@ -80,13 +87,13 @@ module _ (head : Head) (table : List ℕ) (c : Call) where
           go a (store h) = refl
           go a (full h l) = refl
 
-  ready-sources : Ready (capacity table) (c .strip) going [] 0 start (prepared head table c) → thenSources (c .strip) leaving (prepared head table c) ≡ sourcesGone
+  ready-sources : IsReady → thenSources (c .strip) leaving (prepared head table c) ≡ sourcesGone
   ready-sources r =
       let a : prepared head table c .answer ≡ Answer.Accepted (length going) = r .answers ∙ ap Answer.Accepted (omega arith) in
       let n : prepared head table c .read ≡ length going = let k = r .reads in omega arith in
       rw (a, r .leaves, n)
 
-  ready-record : Ready (capacity table) (c .strip) going [] 0 start (prepared head table c) → recordAfter (prepared head table c) going (c .recordList) ≡ written (numbersOf going) (c .recordList)
+  ready-record : IsReady → recordAfter (prepared head table c) going (c .recordList) ≡ written (numbersOf going) (c .recordList)
   ready-record r = rw (r .answers)
 
   cleared-accepted : (list : List ℕ) → Cleared (c .strip) (Answer.Accepted (length going)) leaving (length going) (added going start) sourcesGone → shown head table list sourcesGone ≡ shown head table list (record { answer = Answer.Accepted (length going); postings = takenAway leaving (added going start); read = 0 })
@@ -100,19 +107,19 @@ module _ (head : Head) (table : List ℕ) (c : Call) where
       go (Verdict.Refused a) e = Published.refused a e refl
       go Verdict.Passes e = ⊎-elim ready stop (prepared-runs (publish-clear head table c e))
         where
-          ready : Ready (capacity table) (c .strip) going [] 0 start (prepared head table c) → Published (shown head table (recordAfter (prepared head table c) going (c .recordList)) (thenSources (c .strip) leaving (prepared head table c)))
+          ready : IsReady → Published (shown head table (recordAfter (prepared head table c) going (c .recordList)) (thenSources (c .strip) leaving (prepared head table c)))
           ready r =
               rw (ready-sources r, ready-record r)
               (⊎-elim (λ k. Published.taken e r k (cleared-accepted (written (numbersOf going) (c .recordList)) k)) (λ k. Published.halted e r k refl)
               (remove-runs (c .strip) (Answer.Accepted (length going)) leaving (length going) (added going start)))
 
-          stop : Stopped (capacity table) (c .strip) start going 0 0 (length start) (prepared head table c) → Published (shown head table (recordAfter (prepared head table c) going (c .recordList)) (thenSources (c .strip) leaving (prepared head table c)))
+          stop : IsStopped → Published (shown head table (recordAfter (prepared head table c) going (c .recordList)) (thenSources (c .strip) leaving (prepared head table c)))
           stop s = rw (stop-not-accepted s) (Published.stopped e s refl)
 
   pub data Prepares (o : Outcome) : Type 0 where
     refused : (a : Answer) → prepareChecks head table c ≡ Verdict.Refused a → o ≡ asBefore head table (c .recordList) a → Prepares o
-    ready : prepareChecks head table c ≡ Verdict.Passes → Ready (capacity table) (c .strip) going [] 0 start (prepared head table c) → o ≡ shown head table (written (numbersOf going) (c .recordList)) (prepared head table c) → Prepares o
-    stopped : prepareChecks head table c ≡ Verdict.Passes → Stopped (capacity table) (c .strip) start going 0 0 (length start) (prepared head table c) → o ≡ shown head table (c .recordList) (prepared head table c) → Prepares o
+    ready : prepareChecks head table c ≡ Verdict.Passes → IsReady → o ≡ shown head table (written (numbersOf going) (c .recordList)) (prepared head table c) → Prepares o
+    stopped : prepareChecks head table c ≡ Verdict.Passes → IsStopped → o ≡ shown head table (c .recordList) (prepared head table c) → Prepares o
 
   pub prepares : Prepares (prepareOf head table c)
   unfolding prepareOf

@@ -1,6 +1,6 @@
 -- Prepare over destinations that are all new: it is ready exactly where there is room for them all and every byte that it
 -- reads is 0; else it stops at one destination and takes back those before it.
-use Prim.Native.Nat.{ℕ, zero, suc, _+_, _≤_, _<_}
+use Prim.Native.Nat.{ℕ, suc, _+_, _≤_, _<_}
 use native.Mathlib.Omega.{arith}
 use mathlib.Core.Path.{_≡_, refl, sym, ap, _∙_}
 use mathlib.Core.List.{List, [], _∷_}
@@ -14,8 +14,8 @@ use Rattle.rules.specs.declared.Answer.{Answer}
 use Rattle.rules.specs.declared.Verdict.{Verdict}
 use Rattle.rules.specs.Postings.{every, within, same, present, inserted}
 use Rattle.rules.specs.Orders.{Numbered, byteAt, postingsOf}
-use Rattle.rules.specs.Publication.{Undone, undoing, Stage, whyNot, notInserted, preparing}
-use Rattle.laws.specs.Words.{added, takenAway, numberAt, Quiet, Noisy}
+use Rattle.rules.specs.Publication.{undoing, Stage, whyNot, notInserted, preparing}
+use Rattle.laws.specs.Words.{added, numberAt, Quiet, Noisy}
 use Rattle.laws.proofs.Tests.{either, and-left, and-right}
 use Rattle.laws.proofs.Lists.{or-swap, present-inserted, length-inserted}
 use Rattle.laws.proofs.Flat.{Sound}

@@ -3,19 +3,18 @@ use Prim.Native.Nat.{ℕ, zero, suc, _+_, _≤_, _<_}
 use native.Mathlib.Nat.{zero-add}
 use native.Mathlib.Omega.{arith}
 use mathlib.Core.Path.{_≡_, refl, sym, ap, _∙_}
-use mathlib.Core.List.{List, [], _∷_, _++_, reverseAux, reverse}
-use mathlib.Core.Bool.{Bool, true, false, cond, not, _&&_, _||_, or-true, or-false, or-assoc}
+use mathlib.Core.List.{List, [], _∷_, reverseAux, reverse}
+use mathlib.Core.Bool.{true, false, _||_, or-true, or-false, or-assoc}
 use lib.ListN.{length, getD}
-use lib.Dec.{eqb, ltb, leb, leb·suc-suc}
+use lib.Dec.{eqb, leb, leb·suc-suc}
 use borrow.Author.Tests.{leb-true, eq-eqb, ne-eqb, lt-ltb, le-leb, le-ltb}
 use Rattle.rules.specs.declared.Posting.{Posting}
 use Rattle.rules.specs.declared.Key.{Key}
 use Rattle.rules.specs.declared.Change.{Change}
-use Rattle.rules.specs.declared.Answer.{Answer}
 use Rattle.rules.specs.declared.Verdict.{Verdict}
-use Rattle.rules.specs.Postings.{every, same, present, inserted}
+use Rattle.rules.specs.Postings.{same, present, inserted}
 use Rattle.rules.specs.Orders.{Numbered, named, destinationOf, destinationsFrom, destinations, numbersOf, postingsOf, noChange, recorded}
-use Rattle.rules.specs.Checks.{must, orElse, isNamed, recordable, among, recordFrom}
+use Rattle.rules.specs.Checks.{isNamed, recordable, among, recordFrom}
 use Rattle.laws.specs.Words.{added, takenAway, rising}
 use Rattle.laws.proofs.Tests.{and-left, and-right, both, neither}
 use Rattle.laws.proofs.Lists.{or-swap}

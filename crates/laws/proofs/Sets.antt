@@ -1,17 +1,13 @@
 -- Destinations added and sources taken away, as sets and as ascending lists.
-use Prim.Native.Nat.{ℕ, suc, _+_}
-use native.Mathlib.Omega.{arith}
 use mathlib.Core.Path.{_≡_, refl, sym, ap, _∙_}
 use mathlib.Core.List.{List, [], _∷_}
 use mathlib.Core.Bool.{Bool, true, false, not, _&&_, _||_, or-false, and-true}
-use lib.ListN.{length}
 use Rattle.rules.specs.declared.Posting.{Posting}
 use Rattle.rules.specs.Postings.{same, ascending, present, inserted, removed}
 use Rattle.rules.specs.Orders.{Numbered, postingsOf}
 use Rattle.laws.specs.Words.{added, takenAway}
-use Rattle.laws.proofs.Lists.{or-swap, present-inserted, present-removed, length-inserted}
+use Rattle.laws.proofs.Lists.{present-inserted, present-removed}
 use Rattle.laws.proofs.Sorted.{ascending-inserted, ascending-removed, ascending-same}
-use Rattle.laws.proofs.Prepare.{Fresh}
 
 or-turn : (a b c : Bool) → ((a || b) || c) ≡ (b || (a || c))
 or-turn true true c = refl

@@ -1,14 +1,12 @@
 -- Lists stay ascending, and an ascending list is told by what stands in it.
-use Prim.Native.Nat.{ℕ, suc}
-use native.Mathlib.Omega.{arith}
 use mathlib.Core.Path.{_≡_, refl, sym, ap, _∙_}
 use mathlib.Core.List.{List, [], _∷_}
-use mathlib.Core.Bool.{Bool, true, false, cond, _&&_, _||_}
+use mathlib.Core.Bool.{Bool, true, false, _&&_, _||_}
 use Rattle.rules.specs.declared.Posting.{Posting}
 use Rattle.rules.specs.declared.Order.{Order}
 use Rattle.rules.specs.Postings.{every, compared, isBefore, isSame, same, chain, ascending, present, placed, inserted, removed}
 use Rattle.laws.proofs.Tests.{clash, and-left, and-right, both, by-cases, neither}
-use Rattle.laws.proofs.Ranks.{compared-same, is-before, after-before, before-after, before-before, same-equal, same-self}
+use Rattle.laws.proofs.Ranks.{compared-same, is-before, after-before, before-before, same-equal, same-self}
 
 chain-before : (p q : Posting) (qs : List Posting) → chain p (q ∷ qs) ≡ true → compared p q ≡ Order.Before
 unfolding chain

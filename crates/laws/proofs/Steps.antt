@@ -1,24 +1,23 @@
 -- One step by the next byte: what an insertion and a removal leave, and how undo, prepare and source removal go on from there.
-use Prim.Native.Nat.{ℕ, suc, _+_, _≤_, _<_}
+use Prim.Native.Nat.{ℕ, _+_, _≤_, _<_}
 use native.Mathlib.Omega.{arith}
-use mathlib.Core.Path.{_≡_, refl, sym, ap, _∙_}
-use mathlib.Core.List.{List, [], _∷_}
-use mathlib.Core.Bool.{Bool, true, false, cond, not, _&&_, _||_}
-use mathlib.Core.Logic.{_⊎_, inl, inr, ⊎-elim}
+use mathlib.Core.Path.{_≡_, refl, sym, _∙_}
+use mathlib.Core.List.{List, _∷_}
+use mathlib.Core.Bool.{Bool, true, false, not, _&&_}
+use mathlib.Core.Logic.{_⊎_, inl, inr}
 use lib.ListN.{length}
-use lib.Dec.{eqb, ltb}
-use borrow.Author.Tests.{eq-eqb, ne-eqb, lt-ltb, le-ltb, eqb-true, eqb-false}
+use lib.Dec.{eqb}
+use borrow.Author.Tests.{eq-eqb, ne-eqb, lt-ltb, le-ltb}
 use Rattle.rules.specs.declared.Posting.{Posting}
 use Rattle.rules.specs.declared.Fault.{Fault}
 use Rattle.rules.specs.declared.Answer.{Answer}
 use Rattle.rules.specs.declared.Verdict.{Verdict}
-use Rattle.rules.specs.Postings.{every, within, same, present, inserted, removed}
-use Rattle.rules.specs.Orders.{Numbered, byteAt, postingsOf}
-use Rattle.rules.specs.Storage.{Insertion, insertion, Removal, removal}
-use Rattle.rules.specs.Publication.{Undone, undoing, Stage, notInserted, preparing, removing}
+use Rattle.rules.specs.Postings.{within, same, present, inserted, removed}
+use Rattle.rules.specs.Orders.{Numbered, byteAt}
+use Rattle.rules.specs.Storage.{insertion, Removal, removal}
+use Rattle.rules.specs.Publication.{undoing, notInserted, preparing, removing}
 use Rattle.laws.specs.Words.{RemovedOnly}
-use Rattle.laws.proofs.Tests.{by-cases, either, clash, and-left, and-right, both, or-left, or-right}
-use Rattle.laws.proofs.Ranks.{same-equal}
+use Rattle.laws.proofs.Tests.{by-cases, clash, and-left, or-left, or-right}
 use Rattle.laws.proofs.Lists.{present-removed, length-removed, length-inserted-most}
 use Rattle.laws.proofs.Sorted.{ascending-inserted, ascending-removed, every-inserted, every-removed}
 use Rattle.laws.proofs.Flat.{Sound}

@@ -1,8 +1,8 @@
 -- A run of undo removals: clean exactly where every byte that it reads is 0; else refused with the last change whose removal
 -- failed. It goes through the whole list either way.
-use Prim.Native.Nat.{ℕ, zero, suc, _+_, _≤_, _<_}
+use Prim.Native.Nat.{ℕ, suc, _+_, _≤_, _<_}
 use native.Mathlib.Omega.{arith}
-use mathlib.Core.Path.{_≡_, refl, sym, ap, _∙_}
+use mathlib.Core.Path.{_≡_, refl}
 use mathlib.Core.List.{List, [], _∷_}
 use mathlib.Core.Bool.{Bool, true, false, or-true}
 use mathlib.Core.Logic.{_⊎_, inl, inr, ⊎-elim}
@@ -16,7 +16,7 @@ use Rattle.rules.specs.Postings.{same, present, inserted, removed}
 use Rattle.rules.specs.Orders.{Numbered, byteAt, postingsOf}
 use Rattle.rules.specs.Storage.{removal}
 use Rattle.rules.specs.Publication.{Undone, undoing}
-use Rattle.laws.specs.Words.{added, takenAway, numberAt, Quiet, Noisy, RemovedOnly}
+use Rattle.laws.specs.Words.{takenAway, numberAt, Quiet, Noisy, RemovedOnly}
 use Rattle.laws.proofs.Tests.{neither}
 use Rattle.laws.proofs.Lists.{removed-inserted, present-inserted, differs}
 use Rattle.laws.proofs.Flat.{Sound}

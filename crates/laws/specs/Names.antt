@@ -5,7 +5,6 @@ use mathlib.Core.List.{List}
 use mathlib.Core.Bool.{Bool, true, false}
 use mathlib.Core.Logic.{_⊎_}
 use lib.ListN.{length, getD}
-use Rattle.rules.specs.declared.Posting.{Posting}
 use Rattle.rules.specs.declared.Change.{Change}
 use Rattle.rules.specs.Postings.{same}
 use Rattle.rules.specs.Orders.{Numbered}

@@ -1,5 +1,4 @@
 -- The numbers that an operator sees: for each answer its number and what it names, and what follows from the answer alone.
-use Prim.Native.Nat.{ℕ}
 use mathlib.Core.Bool.{Bool, _||_}
 use lib.Dec.{eqb}
 use Rattle.rules.specs.declared.Answer.{Answer}

@@ -2,10 +2,8 @@
 use Prim.Native.Nat.{ℕ}
 use mathlib.Core.Path.{_≡_, refl}
 use mathlib.Core.List.{List, [], _∷_}
-use Rattle.rules.specs.declared.Head.{Head}
 use Rattle.rules.specs.declared.Told.{Told}
 use Rattle.rules.specs.Answers.{toldOf}
-use Rattle.rules.specs.Checks.{Call}
 use Rattle.rules.specs.Calls.{Outcome, publishOf}
 use Rattle.rules.specs.Trial.{computing}
 

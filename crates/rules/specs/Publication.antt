@@ -9,7 +9,7 @@ use Rattle.rules.specs.declared.Fault.{Fault}
 use Rattle.rules.specs.declared.Answer.{Answer}
 use Rattle.rules.specs.declared.Verdict.{Verdict}
 use Rattle.rules.specs.Orders.{Numbered, byteAt}
-use Rattle.rules.specs.Storage.{Insertion, insertion, Removal, removal}
+use Rattle.rules.specs.Storage.{insertion, removal}
 use Rattle.rules.specs.Answers.{isAccepted, settled}
 
 -- what a run of undo removals leaves; refused with the last change whose removal failed
