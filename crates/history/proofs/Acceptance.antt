@@ -53,7 +53,9 @@ module _ (capacity used : ℕ) (strip : List ℕ) (ds ss : List Numbered) where
   halts-before : (i j : ℕ) → Quiet strip 0 (length ds + j) → (byteAt strip (length ds + i) ≡ 0 → ⊥) → i < j → ⊥
   halts-before i j q b h = b (q (length ds + i) (omega arith) (omega arith))
 
-  halts-one : (i j : ℕ) → Quiet strip 0 (length ds + i) → (byteAt strip (length ds + i) ≡ 0 → ⊥) → Quiet strip 0 (length ds + j) → (byteAt strip (length ds + j) ≡ 0 → ⊥) → i ≡ j
+  halts-one :
+      (i j : ℕ) → Quiet strip 0 (length ds + i) → (byteAt strip (length ds + i) ≡ 0 → ⊥) → Quiet strip 0 (length ds + j) →
+      (byteAt strip (length ds + j) ≡ 0 → ⊥) → i ≡ j
   halts-one i j p b q e = go (tri i j)
     where
       go : Tri i j → i ≡ j
@@ -99,7 +101,8 @@ module _ (capacity used : ℕ) (strip : List ℕ) (ds ss : List Numbered) where
   ends-one a b (Ends.source i h r q x) (Ends.source j k r′ q′ y) = ap (λ n. Answer.Source (numberAt ss n)) (halts-one i j q x q′ y)
 
   -- none of them accepts but the first
-  accepted-ends : (a : Answer) → isAccepted a ≡ true → End a → (used + length ds ≤ capacity) × Quiet strip 0 (length ds + length ss)
+  accepted-ends :
+      (a : Answer) → isAccepted a ≡ true → End a → (used + length ds ≤ capacity) × Quiet strip 0 (length ds + length ss)
   accepted-ends a h (Ends.accepted r q) = (r, q)
   accepted-ends a h (Ends.store k f x u) = absurd (clash false h refl)
   accepted-ends a h (Ends.full k f x u) = absurd (clash false h refl)
@@ -137,17 +140,23 @@ refused-one v a b p q = cc
 refused-not : {A : Type 0} (v : Verdict) (a : Answer) → v ≡ Verdict.Refused a → v ≡ Verdict.Passes → A
 refused-not v a p q = let z : _≡_ {A = ℕ} 0 1 = cc in absurd (omega arith)
 
-answered-one : (v : Verdict) (E : Answer → Type 0) → ((a b : Answer) → E a → E b → a ≡ b) → (a b : Answer) → Answered v E a → Answered v E b → a ≡ b
+answered-one :
+    (v : Verdict) (E : Answer → Type 0) → ((a b : Answer) → E a → E b → a ≡ b) → (a b : Answer) → Answered v E a →
+    Answered v E b → a ≡ b
 answered-one v E f a b (Answered.refused p) (Answered.refused q) = refused-one v a b p q
 answered-one v E f a b (Answered.refused p) (Answered.ended q e) = refused-not v a p q
 answered-one v E f a b (Answered.ended p e) (Answered.refused q) = refused-not v b q p
 answered-one v E f a b (Answered.ended p d) (Answered.ended q e) = f a b d e
 
-exactly : (v : Verdict) (E : Answer → Type 0) → ((a b : Answer) → E a → E b → a ≡ b) → (given : Answer) → Answered v E given → (a : Answer) → (given ≡ a) ↔ Answered v E a
+exactly :
+    (v : Verdict) (E : Answer → Type 0) → ((a b : Answer) → E a → E b → a ≡ b) → (given : Answer) → Answered v E given →
+    (a : Answer) → (given ≡ a) ↔ Answered v E a
 exactly v E f given h a = ((λ e. rw e at h), (λ k. answered-one v E f given a h k))
 
 -- an accepted answer is no check's
-accepted-passes : (v : Verdict) (E : Answer → Type 0) → isProper v ≡ true → (a : Answer) → isAccepted a ≡ true → Answered v E a → (v ≡ Verdict.Passes) × E a
+accepted-passes :
+    (v : Verdict) (E : Answer → Type 0) → isProper v ≡ true → (a : Answer) → isAccepted a ≡ true → Answered v E a →
+    (v ≡ Verdict.Passes) × E a
 accepted-passes v E p a h (Answered.refused e) =
     absurd (clash (isAccepted a) h (unchanged-accepts-not a (refusal-unchanged a (refuses v a p e))))
 accepted-passes v E p a h (Answered.ended e k) = (e, k)
@@ -159,7 +168,10 @@ module _ (head : Head) (table : List ℕ) (c : Call) where
   ready-room : Clear head table c → IsReady head table c → head .used + length (going head table c) ≤ capacity table
   ready-room k r = let u = used-start k in let l = r .room in omega arith
 
-  stopped-fails : Clear head table c → (s : IsStopped head table c) → (byteAt (c .strip) (s .at) ≡ 0 → ⊥) ⊎ (head .used + s .at ≡ capacity table) → Fails (capacity table) (head .used) (c .strip) (going head table c) (s .at)
+  stopped-fails :
+      Clear head table c → (s : IsStopped head table c) →
+      (byteAt (c .strip) (s .at) ≡ 0 → ⊥) ⊎ (head .used + s .at ≡ capacity table) →
+      Fails (capacity table) (head .used) (c .strip) (going head table c) (s .at)
   stopped-fails k s f =
       record {
         there = s .there;
@@ -169,13 +181,19 @@ module _ (head : Head) (table : List ℕ) (c : Call) where
       }
 
   -- the insertion that stopped prepare is the first to fail, and its undo is clean or not
-  stopped-ends : (ss : List Numbered) → Clear head table c → IsStopped head table c → Ends (capacity table) (head .used) (c .strip) (going head table c) ss (prepared head table c .answer)
+  stopped-ends :
+      (ss : List Numbered) → Clear head table c → IsStopped head table c →
+      Ends (capacity table) (head .used) (c .strip) (going head table c) ss (prepared head table c .answer)
   stopped-ends ss k s = go (s .why) (s .cause) (s .undo)
     where
       z : 0 + s .at ≡ s .at
       z = zero-add (s .at)
 
-      go : (why : Answer) → Cause (byteAt (c .strip) (0 + s .at)) (length (start head table c) + s .at) (capacity table) (numberAt (going head table c) (s .at)) why → TakenBack (c .strip) (0 + s .at + 1) (0 + s .at + 1 + (0 + s .at)) (start head table c) why (prepared head table c) ⊎ LeftBehind (c .strip) (0 + s .at + 1) (0 + s .at + 1 + (0 + s .at)) (numberAt (going head table c) (s .at)) (start head table c) (prepared head table c) → Ends (capacity table) (head .used) (c .strip) (going head table c) ss (prepared head table c .answer)
+      go :
+          (why : Answer) →
+          Cause (byteAt (c .strip) (0 + s .at)) (length (start head table c) + s .at) (capacity table) (numberAt (going head table c) (s .at)) why →
+          TakenBack (c .strip) (0 + s .at + 1) (0 + s .at + 1 + (0 + s .at)) (start head table c) why (prepared head table c) ⊎ LeftBehind (c .strip) (0 + s .at + 1) (0 + s .at + 1 + (0 + s .at)) (numberAt (going head table c) (s .at)) (start head table c) (prepared head table c) →
+          Ends (capacity table) (head .used) (c .strip) (going head table c) ss (prepared head table c .answer)
       go why (Cause.store b) u =
           let b′ : byteAt (c .strip) (s .at) ≡ 0 → ⊥ = rw z at b in
           let f = stopped-fails k s (inl b′) in
@@ -186,7 +204,9 @@ module _ (head : Head) (table : List ℕ) (c : Call) where
           ⊎-elim (λ t. rw (t .answers) (Ends.full (s .at) f (rw z at b) (rw z at (t .quiet)))) (λ l. rw (l .answers) (Ends.undo (s .at) f (rw z at (l .noisy)))) u
 
   -- the bytes of all insertions, and then those of source removals
-  ready-quiet : (n : ℕ) → IsReady head table c → Quiet (c .strip) (length (going head table c)) (length (going head table c) + n) → Quiet (c .strip) 0 (length (going head table c) + n)
+  ready-quiet :
+      (n : ℕ) → IsReady head table c → Quiet (c .strip) (length (going head table c)) (length (going head table c) + n) →
+      Quiet (c .strip) 0 (length (going head table c) + n)
   ready-quiet n r q =
       quiet-join (c .strip) 0 (length (going head table c)) (length (going head table c) + n) (λ i h k. r .quiet i h (omega arith)) q
 

@@ -51,8 +51,11 @@ live-holding x l =
 
 -- one publish: the index stays; or the call is accepted; or it answers 12 or 13
 pub data Step (x : Index) (c : Call) : Type 0 where
-  stays : left (published x c) ≡ x → isAccepted (published x c .answer) ≡ false → poisons (published x c .answer) ≡ false → Step x c
-  takes : Acceptable (x .head) (x .table) c → isAccepted (published x c .answer) ≡ true → poisons (published x c .answer) ≡ false → Step x c
+  stays :
+      left (published x c) ≡ x → isAccepted (published x c .answer) ≡ false → poisons (published x c .answer) ≡ false → Step x c
+  takes :
+      Acceptable (x .head) (x .table) c → isAccepted (published x c .answer) ≡ true → poisons (published x c .answer) ≡ false →
+      Step x c
   breaks : isAccepted (published x c .answer) ≡ false → poisons (published x c .answer) ≡ true → Step x c
 
 pub step : (x : Index) (c : Call) → Step x c
@@ -73,7 +76,9 @@ live-next x c l h =
       healthy = publish-stable (x .head) (x .table) c .flag ∙ rw h (l .healthy);
     }
 
-spoilt-next : (x : Index) (c : Call) → wellFormed (x .head) (x .table) ≡ true → poisons (published x c .answer) ≡ true → Spoilt (left (published x c))
+spoilt-next :
+    (x : Index) (c : Call) → wellFormed (x .head) (x .table) ≡ true → poisons (published x c .answer) ≡ true →
+    Spoilt (left (published x c))
 spoilt-next x c f h =
     record {
       formed = publish-well-formed (x .head) (x .table) c f;
@@ -87,7 +92,9 @@ holding-next x c ps =
     rw (s .bindings, s .size)
 
 -- an accepted call leaves the postings that it says
-postings-next : (x : Index) (c : Call) → Acceptable (x .head) (x .table) c → postingsIn (left (published x c)) ≡ takenAway (sources (changesOf c)) (added (destinations (changesOf c)) (postingsIn x))
+postings-next :
+    (x : Index) (c : Call) → Acceptable (x .head) (x .table) c →
+    postingsIn (left (published x c)) ≡ takenAway (sources (changesOf c)) (added (destinations (changesOf c)) (postingsIn x))
 postings-next x c a =
     ap (λ (o : Outcome). postings (o .head .used) (o .table)) (acceptable-outcome (x .head) (x .table) c a)
     ∙ postings-laid-out (length (x .table)) (takenAway (sources (changesOf c)) (added (destinations (changesOf c)) (postingsIn x)))
@@ -114,12 +121,16 @@ unfolding after
 bindings-after x [] = refl
 bindings-after x (c ∷ cs) = bindings-after (left (published x c)) cs ∙ publish-stable (x .head) (x .table) c .bindings
 
-pub said-after : (x : Index) (cs : List Call) → Live x → unbroken x cs ≡ true → after x cs ≡ holding x (said (accepted x cs) (postingsIn x))
+pub said-after :
+    (x : Index) (cs : List Call) → Live x → unbroken x cs ≡ true → after x cs ≡ holding x (said (accepted x cs) (postingsIn x))
 unfolding after accepted said
 said-after x [] l h = live-holding x l
 said-after x (c ∷ cs) l h = go (step x c) (said-after (left (published x c)) cs (live-next x c l (unbroken-first x c cs h)) (unbroken-rest x c cs h))
   where
-    go : Step x c → after (left (published x c)) cs ≡ holding (left (published x c)) (said (accepted (left (published x c)) cs) (postingsIn (left (published x c)))) → after (left (published x c)) cs ≡ holding x (said (cond (isAccepted (published x c .answer)) (c ∷ accepted (left (published x c)) cs) (accepted (left (published x c)) cs)) (postingsIn x))
+    go :
+        Step x c →
+        after (left (published x c)) cs ≡ holding (left (published x c)) (said (accepted (left (published x c)) cs) (postingsIn (left (published x c)))) →
+        after (left (published x c)) cs ≡ holding x (said (cond (isAccepted (published x c .answer)) (c ∷ accepted (left (published x c)) cs) (accepted (left (published x c)) cs)) (postingsIn x))
     go (stays e n p) ih = rw n (ih ∙ (holding-next x c _ ∙ ap (λ (y : Index). holding x (said (accepted (left (published x c)) cs) (postingsIn y))) e))
     go (takes a n p) ih = rw n (ih ∙ (holding-next x c _ ∙ ap (λ l. holding x (said (accepted (left (published x c)) cs) l)) (postings-next x c a)))
     go (breaks n p) ih = absurd (clash (poisons (published x c .answer)) p (unbroken-first x c cs h))
@@ -129,7 +140,9 @@ strip-passes : (c : Call) → stripCheck (quiet c) ≡ Verdict.Passes
 unfolding stripCheck properStrip every
 strip-passes c = refl
 
-quiet-passes : (head : Head) (table : List ℕ) (c : Call) → publishChecks head table c ≡ Verdict.Passes → publishChecks head table (quiet c) ≡ Verdict.Passes
+quiet-passes :
+    (head : Head) (table : List ℕ) (c : Call) → publishChecks head table c ≡ Verdict.Passes →
+    publishChecks head table (quiet c) ≡ Verdict.Passes
 unfolding publishChecks listCheck roomCheck guardCheck twiceCheck presentCheck overlapCheck
 quiet-passes head table c h1 =
     let h2 = rest-passes _ _ h1 in
@@ -153,29 +166,40 @@ unfolding after accepted
 replay-after x [] h = refl
 replay-after x (c ∷ cs) h = go (step x c) (replay-after (left (published x c)) cs (unbroken-rest x c cs h))
   where
-    go : Step x c → after (left (published x c)) (map quiet (accepted (left (published x c)) cs)) ≡ after (left (published x c)) cs → after x (map quiet (cond (isAccepted (published x c .answer)) (c ∷ accepted (left (published x c)) cs) (accepted (left (published x c)) cs))) ≡ after (left (published x c)) cs
+    go :
+        Step x c →
+        after (left (published x c)) (map quiet (accepted (left (published x c)) cs)) ≡ after (left (published x c)) cs →
+        after x (map quiet (cond (isAccepted (published x c .answer)) (c ∷ accepted (left (published x c)) cs) (accepted (left (published x c)) cs))) ≡ after (left (published x c)) cs
     go (stays e n p) ih = rw n (ap (λ (y : Index). after y (map quiet (accepted (left (published x c)) cs))) (sym e) ∙ ih)
     go (takes a n p) ih =
         rw n (ap (λ (o : Outcome). after (left o) (map quiet (accepted (left (published x c)) cs))) (quiet-same x c a) ∙ ih)
     go (breaks n p) ih = absurd (clash (poisons (published x c .answer)) p (unbroken-first x c cs h))
 
-pub replay-outcomes : (x : Index) (cs : List Call) → unbroken x cs ≡ true → outcomes x (map quiet (accepted x cs)) ≡ acceptedOutcomes x cs
+pub replay-outcomes :
+    (x : Index) (cs : List Call) → unbroken x cs ≡ true → outcomes x (map quiet (accepted x cs)) ≡ acceptedOutcomes x cs
 unfolding outcomes accepted acceptedOutcomes
 replay-outcomes x [] h = refl
 replay-outcomes x (c ∷ cs) h = go (step x c) (replay-outcomes (left (published x c)) cs (unbroken-rest x c cs h))
   where
-    go : Step x c → outcomes (left (published x c)) (map quiet (accepted (left (published x c)) cs)) ≡ acceptedOutcomes (left (published x c)) cs → outcomes x (map quiet (cond (isAccepted (published x c .answer)) (c ∷ accepted (left (published x c)) cs) (accepted (left (published x c)) cs))) ≡ cond (isAccepted (published x c .answer)) (published x c ∷ acceptedOutcomes (left (published x c)) cs) (acceptedOutcomes (left (published x c)) cs)
+    go :
+        Step x c →
+        outcomes (left (published x c)) (map quiet (accepted (left (published x c)) cs)) ≡ acceptedOutcomes (left (published x c)) cs →
+        outcomes x (map quiet (cond (isAccepted (published x c .answer)) (c ∷ accepted (left (published x c)) cs) (accepted (left (published x c)) cs))) ≡ cond (isAccepted (published x c .answer)) (published x c ∷ acceptedOutcomes (left (published x c)) cs) (acceptedOutcomes (left (published x c)) cs)
     go (stays e n p) ih = rw n (ap (λ (y : Index). outcomes y (map quiet (accepted (left (published x c)) cs))) (sym e) ∙ ih)
     go (takes a n p) ih = rw (n, quiet-same x c a) (ap (λ l. published x c ∷ l) ih)
     go (breaks n p) ih = absurd (clash (poisons (published x c .answer)) p (unbroken-first x c cs h))
 
 -- a count on a live index is its own number, or 6 for a binding that is not below the count
-pub live-count : (x : Index) → Live x → (binding key : ℕ) → countedIn x binding key ≡ cond (ltb binding (x .head .bindings)) (Answer.Accepted (counted binding key (postingsIn x))) (Answer.Guard 0)
+pub live-count :
+    (x : Index) → Live x → (binding key : ℕ) →
+    countedIn x binding key ≡ cond (ltb binding (x .head .bindings)) (Answer.Accepted (counted binding key (postingsIn x))) (Answer.Guard 0)
 unfolding countOf countChecks firstRefusal tableCheck poisonCheck
 live-count x l binding key =
     rw (l .formed, eq-eqb (x .head .poisoned) 0 (l .healthy)) (go (ltb binding (x .head .bindings)))
   where
-    go : (b : Bool) → settled (orElse (must b (Answer.Guard 0)) Verdict.Passes) (Answer.Accepted (counted binding key (postingsIn x))) ≡ cond b (Answer.Accepted (counted binding key (postingsIn x))) (Answer.Guard 0)
+    go :
+        (b : Bool) →
+        settled (orElse (must b (Answer.Guard 0)) Verdict.Passes) (Answer.Accepted (counted binding key (postingsIn x))) ≡ cond b (Answer.Accepted (counted binding key (postingsIn x))) (Answer.Guard 0)
     go true = refl
     go false = refl
 
@@ -187,7 +211,8 @@ spoilt-checks : (x : Index) → Spoilt x → (c : Call) → publishChecks (x .he
 unfolding publishChecks firstRefusal tableCheck poisonCheck
 spoilt-checks x s c = rw (s .formed, flag-set x s)
 
-pub spoilt-publish : (x : Index) → Spoilt x → (c : Call) → published x c ≡ asBefore (x .head) (x .table) (c .recordList) Answer.Poisoned
+pub spoilt-publish :
+    (x : Index) → Spoilt x → (c : Call) → published x c ≡ asBefore (x .head) (x .table) (c .recordList) Answer.Poisoned
 unfolding publishOf
 spoilt-publish x s c = rw (spoilt-checks x s c)
 
@@ -206,13 +231,17 @@ after-append x [] more = refl
 after-append x (c ∷ cs) more = after-append (left (published x c)) cs more
 
 -- a broken history has spoilt the index
-pub broken-after : (x : Index) (cs : List Call) → wellFormed (x .head) (x .table) ≡ true → unbroken x cs ≡ false → Spoilt (after x cs)
+pub broken-after :
+    (x : Index) (cs : List Call) → wellFormed (x .head) (x .table) ≡ true → unbroken x cs ≡ false → Spoilt (after x cs)
 unfolding after unbroken
 broken-after x [] f h = absurd (clash true refl h)
 broken-after x (c ∷ cs) f h =
     go (poisons (published x c .answer)) refl h (broken-after (left (published x c)) cs (publish-well-formed (x .head) (x .table) c f))
   where
-    go : (b : Bool) → poisons (published x c .answer) ≡ b → (not b && unbroken (left (published x c)) cs) ≡ false → (unbroken (left (published x c)) cs ≡ false → Spoilt (after (left (published x c)) cs)) → Spoilt (after (left (published x c)) cs)
+    go :
+        (b : Bool) → poisons (published x c .answer) ≡ b → (not b && unbroken (left (published x c)) cs) ≡ false →
+        (unbroken (left (published x c)) cs ≡ false → Spoilt (after (left (published x c)) cs)) →
+        Spoilt (after (left (published x c)) cs)
     go true e k ih = let s = spoilt-next x c f e in rw (spoilt-after (left (published x c)) s cs) s
     go false e k ih = ih k
 

@@ -74,11 +74,15 @@ module _ (head : Head) (table : List ℕ) (c : Call) (strip : List ℕ) (ok : is
   unfolding stripCheck
   strip-passes h = rw h
 
-  guard-passes : guardCheck head c ≡ Verdict.Passes → guardCheck (prepareOf head table c .head) (backOf head table c strip) ≡ Verdict.Passes
+  guard-passes :
+      guardCheck head c ≡ Verdict.Passes →
+      guardCheck (prepareOf head table c .head) (backOf head table c strip) ≡ Verdict.Passes
   unfolding guardCheck
   guard-passes h = rw (prepare-stable head table c .bindings) h
 
-  checks-pass : properStrip strip ≡ true → prepareChecks head table c ≡ Verdict.Passes → rollbackChecks (prepareOf head table c .head) (prepareOf head table c .table) (backOf head table c strip) ≡ Verdict.Passes
+  checks-pass :
+      properStrip strip ≡ true → prepareChecks head table c ≡ Verdict.Passes →
+      rollbackChecks (prepareOf head table c .head) (prepareOf head table c .table) (backOf head table c strip) ≡ Verdict.Passes
   unfolding prepareChecks rollbackChecks
   checks-pass s h1 =
       let h3 = rest-passes _ _ (rest-passes _ _ h1) in
@@ -99,7 +103,9 @@ module _ (head : Head) (table : List ℕ) (c : Call) (strip : List ℕ) (ok : is
       ∙ added-back (destinations (changesOf c)) (postingsBefore head table) (clear .fresh)
 
   -- shown again, the postings before are the table before
-  shown-before : (list : List ℕ) (s : Stage) → s .answer ≡ Answer.Accepted 0 → s .postings ≡ postingsBefore head table → shown (prepareOf head table c .head) (prepareOf head table c .table) list s ≡ asBefore head table list (Answer.Accepted 0)
+  shown-before :
+      (list : List ℕ) (s : Stage) → s .answer ≡ Answer.Accepted 0 → s .postings ≡ postingsBefore head table →
+      shown (prepareOf head table c .head) (prepareOf head table c .table) list s ≡ asBefore head table list (Answer.Accepted 0)
   shown-before list s a e =
       let w = well-formed-parts head table (clear .formed) in
       let k = prepare-stable head table c in
@@ -115,7 +121,9 @@ module _ (head : Head) (table : List ℕ) (c : Call) (strip : List ℕ) (ok : is
       }
 
   -- CLEAN UNDO: table and head are those from before the prepare, number for number
-  pub rollback-restores : properStrip strip ≡ true → Quiet strip 0 (length (destinations (changesOf c))) → rollbackOf (prepareOf head table c .head) (prepareOf head table c .table) (backOf head table c strip) ≡ asBefore head table (backOf head table c strip .recordList) (Answer.Accepted 0)
+  pub rollback-restores :
+      properStrip strip ≡ true → Quiet strip 0 (length (destinations (changesOf c))) →
+      rollbackOf (prepareOf head table c .head) (prepareOf head table c .table) (backOf head table c strip) ≡ asBefore head table (backOf head table c strip .recordList) (Answer.Accepted 0)
   rollback-restores s q = go (rollbackOf ohead otable back) (rolls-back ohead otable back)
     where
       ohead : Head

@@ -53,7 +53,9 @@ other-unchanged a h k = go a h k (kind a)
     go b x y (Kind.broken u n p) = absurd (clash (poisons b) p y)
 
 module _ (head : Head) (table : List ℕ) (c : Call) where
-  errors-of : (o : Outcome) → Stable head table o → (isUnchanged (o .answer) ≡ true → o ≡ asBefore head table (c .recordList) (o .answer)) → Errors head table c o
+  errors-of :
+      (o : Outcome) → Stable head table o →
+      (isUnchanged (o .answer) ≡ true → o ≡ asBefore head table (c .recordList) (o .answer)) → Errors head table c o
   errors-of o s f =
       record { poisoned = λ p. s .flag ∙ rw p; others = λ h k. f (other-unchanged (o .answer) h k) }
 
@@ -66,31 +68,45 @@ module _ (head : Head) (table : List ℕ) (c : Call) where
       go a x (Kind.broken u n p) = absurd (clash (isAccepted a) x n)
 
   -- the postings that a stage shows are the ones that are left
-  shown-left : (P : List Posting → Type 0) (s : Stage) → P (s .postings) → P (postings (length (s .postings)) (laidOut (length table) (s .postings)))
+  shown-left :
+      (P : List Posting → Type 0) (s : Stage) → P (s .postings) →
+      P (postings (length (s .postings)) (laidOut (length table) (s .postings)))
   shown-left P s h = rw (postings-laid-out (length table) (s .postings)) h
 
-  decided-left : (P : List Posting → Type 0) (v : Verdict) (list : List ℕ) (s : Stage) → P (postingsBefore head table) → P (s .postings) → P (postingsLeft (decided v (asBefore head table (c .recordList)) (shown head table list s)))
+  decided-left :
+      (P : List Posting → Type 0) (v : Verdict) (list : List ℕ) (s : Stage) → P (postingsBefore head table) → P (s .postings) →
+      P (postingsLeft (decided v (asBefore head table (c .recordList)) (shown head table list s)))
   decided-left P Verdict.Passes list s h k = shown-left P s k
   decided-left P (Verdict.Refused a) list s h k = h
 
-  refused-not : {A : Type 0} (v : Verdict) (o : Outcome) (a : Answer) → isProper v ≡ true → v ≡ Verdict.Refused a → o ≡ asBefore head table (c .recordList) a → isAccepted (o .answer) ≡ true → A
+  refused-not :
+      {A : Type 0} (v : Verdict) (o : Outcome) (a : Answer) → isProper v ≡ true → v ≡ Verdict.Refused a →
+      o ≡ asBefore head table (c .recordList) a → isAccepted (o .answer) ≡ true → A
   refused-not v o a p e k h =
       absurd (clash (isAccepted a) (rw k at h) (unchanged-accepts-not a (refusal-unchanged a (refuses v a p e))))
 
   -- what the checks of a call that was accepted say
-  rollback-accepted : isAccepted (rollbackOf head table c .answer) ≡ true → (rollbackChecks head table c ≡ Verdict.Passes) × (postingsLeft (rollbackOf head table c) ≡ takenAway (recordedBack head table c) (postingsBefore head table))
+  rollback-accepted :
+      isAccepted (rollbackOf head table c .answer) ≡ true →
+      (rollbackChecks head table c ≡ Verdict.Passes) × (postingsLeft (rollbackOf head table c) ≡ takenAway (recordedBack head table c) (postingsBefore head table))
   rollback-accepted h = go (rollbackOf head table c) h (rolls-back head table c)
     where
-      go : (o : Outcome) → isAccepted (o .answer) ≡ true → RollsBack head table c o → (rollbackChecks head table c ≡ Verdict.Passes) × (postingsLeft o ≡ takenAway (recordedBack head table c) (postingsBefore head table))
+      go :
+          (o : Outcome) → isAccepted (o .answer) ≡ true → RollsBack head table c o →
+          (rollbackChecks head table c ≡ Verdict.Passes) × (postingsLeft o ≡ takenAway (recordedBack head table c) (postingsBefore head table))
       go o u (RollsBack.refused a e k) = refused-not (rollbackChecks head table c) o a (rollback-proper head table c) e k u
       go o u (RollsBack.clean e r k) =
           (e, rw k (shown-left (λ l. l ≡ takenAway (recordedBack head table c) (postingsBefore head table)) (rolledBack (undid head table c)) (r .leaves)))
       go o u (RollsBack.failed e r k) = absurd (clash (isAccepted (o .answer)) u (rw (k, r .verdict)))
 
-  removal-accepted : isAccepted (removalOf head table c .answer) ≡ true → (removalChecks head table c ≡ Verdict.Passes) × (postingsLeft (removalOf head table c) ≡ takenAway (leaving head table c) (postingsBefore head table))
+  removal-accepted :
+      isAccepted (removalOf head table c .answer) ≡ true →
+      (removalChecks head table c ≡ Verdict.Passes) × (postingsLeft (removalOf head table c) ≡ takenAway (leaving head table c) (postingsBefore head table))
   removal-accepted h = go (removalOf head table c) h (removes head table c)
     where
-      go : (o : Outcome) → isAccepted (o .answer) ≡ true → Removes head table c o → (removalChecks head table c ≡ Verdict.Passes) × (postingsLeft o ≡ takenAway (leaving head table c) (postingsBefore head table))
+      go :
+          (o : Outcome) → isAccepted (o .answer) ≡ true → Removes head table c o →
+          (removalChecks head table c ≡ Verdict.Passes) × (postingsLeft o ≡ takenAway (leaving head table c) (postingsBefore head table))
       go o u (Removes.refused a e k) = refused-not (removalChecks head table c) o a (removal-proper head table c) e k u
       go o u (Removes.cleared e r k) =
           (e, rw k (shown-left (λ l. l ≡ takenAway (leaving head table c) (postingsBefore head table)) (removedAlone head table c) (r .leaves)))
@@ -127,7 +143,9 @@ module _ (head : Head) (table : List ℕ) (c : Call) where
       (removed-only-same (postingsBefore head table) _)
       (turned (undo-removes (c .strip) (recordedBack head table c) Verdict.Passes 0 (postingsBefore head table)))
     where
-      turned : RemovedOnly (postingsBefore head table) (undid head table c .postings) (postingsOf (recordedBack head table c)) → RemovedOnly (postingsBefore head table) (undid head table c .postings) (postingsOf (recorded (changesOf c) (c .recordList)))
+      turned :
+          RemovedOnly (postingsBefore head table) (undid head table c .postings) (postingsOf (recordedBack head table c)) →
+          RemovedOnly (postingsBefore head table) (undid head table c .postings) (postingsOf (recorded (changesOf c) (c .recordList)))
       turned r =
           record {
             inside = r .inside;
@@ -156,7 +174,8 @@ module _ (head : Head) (table : List ℕ) (c : Call) where
       }
 
   -- prepare_index_destinations
-  prepare-valid : prepareChecks head table c ≡ Verdict.Passes → Valid head table c × UniqueDestinations head table c × Disjoint head table c
+  prepare-valid :
+      prepareChecks head table c ≡ Verdict.Passes → Valid head table c × UniqueDestinations head table c × Disjoint head table c
   unfolding prepareChecks
   prepare-valid h1 =
       let h6 = rest-passes _ _ (rest-passes _ _ (rest-passes _ _ (rest-passes _ _ (rest-passes _ _ h1)))) in
@@ -167,7 +186,8 @@ module _ (head : Head) (table : List ℕ) (c : Call) where
         present-passes head table c (first-passes _ _ h8),
       )
 
-  prepare-keeps : (p : Posting) → present p (postingsBefore head table) ≡ true → present p (postingsLeft (prepareOf head table c)) ≡ true
+  prepare-keeps :
+      (p : Posting) → present p (postingsBefore head table) ≡ true → present p (postingsLeft (prepareOf head table c)) ≡ true
   prepare-keeps p h = go (prepareOf head table c) (prepares head table c)
     where
       go : (o : Outcome) → Prepares head table c o → present p (postingsLeft o) ≡ true
@@ -181,7 +201,9 @@ module _ (head : Head) (table : List ℕ) (c : Call) where
           (shown-left (λ l. present p l ≡ true) (prepared head table c)
           (⊎-elim (λ t. rw (t .leaves) h) (λ l. l .keeps p h) (s .undo)))
 
-  prepare-within : (p : Posting) → present p (postingsLeft (prepareOf head table c)) ≡ true → (present p (postingsBefore head table) || present p (postingsOf (destinations (changesOf c)))) ≡ true
+  prepare-within :
+      (p : Posting) → present p (postingsLeft (prepareOf head table c)) ≡ true →
+      (present p (postingsBefore head table) || present p (postingsOf (destinations (changesOf c)))) ≡ true
   unfolding prepareOf
   prepare-within p =
       decided-left (λ l. present p l ≡ true → (present p (postingsBefore head table) || present p (postingsOf (destinations (changesOf c)))) ≡ true) (prepareChecks head table c) _

@@ -32,21 +32,35 @@ pub record Fails (capacity used : ℕ) (strip : List ℕ) (ds : List Numbered) (
 
 -- how a publish ends that no check refuses; the undo of k insertions reads the k bytes after byte k
 pub data Ends (capacity used : ℕ) (strip : List ℕ) (ds ss : List Numbered) : Answer → Type 0 where
-  accepted : used + length ds ≤ capacity → Quiet strip 0 (length ds + length ss) → Ends capacity used strip ds ss (Answer.Accepted (length ds))
-  store : (k : ℕ) → Fails capacity used strip ds k → (byteAt strip k ≡ 0 → ⊥) → Quiet strip (k + 1) (k + 1 + k) → Ends capacity used strip ds ss (Answer.Store (numberAt ds k))
-  full : (k : ℕ) → Fails capacity used strip ds k → byteAt strip k ≡ 0 → Quiet strip (k + 1) (k + 1 + k) → Ends capacity used strip ds ss (Answer.Full (numberAt ds k))
-  undo : (k : ℕ) → Fails capacity used strip ds k → Noisy strip (k + 1) (k + 1 + k) → Ends capacity used strip ds ss (Answer.Undo (numberAt ds k))
-  source : (j : ℕ) → j < length ss → used + length ds ≤ capacity → Quiet strip 0 (length ds + j) → (byteAt strip (length ds + j) ≡ 0 → ⊥) → Ends capacity used strip ds ss (Answer.Source (numberAt ss j))
+  accepted :
+      used + length ds ≤ capacity → Quiet strip 0 (length ds + length ss) →
+      Ends capacity used strip ds ss (Answer.Accepted (length ds))
+  store :
+      (k : ℕ) → Fails capacity used strip ds k → (byteAt strip k ≡ 0 → ⊥) → Quiet strip (k + 1) (k + 1 + k) →
+      Ends capacity used strip ds ss (Answer.Store (numberAt ds k))
+  full :
+      (k : ℕ) → Fails capacity used strip ds k → byteAt strip k ≡ 0 → Quiet strip (k + 1) (k + 1 + k) →
+      Ends capacity used strip ds ss (Answer.Full (numberAt ds k))
+  undo :
+      (k : ℕ) → Fails capacity used strip ds k → Noisy strip (k + 1) (k + 1 + k) →
+      Ends capacity used strip ds ss (Answer.Undo (numberAt ds k))
+  source :
+      (j : ℕ) → j < length ss → used + length ds ≤ capacity → Quiet strip 0 (length ds + j) →
+      (byteAt strip (length ds + j) ≡ 0 → ⊥) → Ends capacity used strip ds ss (Answer.Source (numberAt ss j))
 
 -- how a rollback ends, over its record's destinations in the order of their undo: 12 names the last removal to fail
 pub data RollbackEnds (strip : List ℕ) (items : List Numbered) : Answer → Type 0 where
   accepted : Quiet strip 0 (length items) → RollbackEnds strip items (Answer.Accepted 0)
-  undo : (k : ℕ) → k < length items → (byteAt strip k ≡ 0 → ⊥) → Quiet strip (k + 1) (length items) → RollbackEnds strip items (Answer.Undo (numberAt items k))
+  undo :
+      (k : ℕ) → k < length items → (byteAt strip k ≡ 0 → ⊥) → Quiet strip (k + 1) (length items) →
+      RollbackEnds strip items (Answer.Undo (numberAt items k))
 
 -- how a source removal ends: 13 names the first removal to fail
 pub data RemovalEnds (strip : List ℕ) (items : List Numbered) : Answer → Type 0 where
   accepted : Quiet strip 0 (length items) → RemovalEnds strip items (Answer.Accepted 0)
-  source : (j : ℕ) → j < length items → Quiet strip 0 j → (byteAt strip j ≡ 0 → ⊥) → RemovalEnds strip items (Answer.Source (numberAt items j))
+  source :
+      (j : ℕ) → j < length items → Quiet strip 0 j → (byteAt strip j ≡ 0 → ⊥) →
+      RemovalEnds strip items (Answer.Source (numberAt items j))
 
 -- the answer of a call: the first check's that applies, and else by how it ends
 pub data Answered (checks : Verdict) (ends : Answer → Type 0) (a : Answer) : Type 0 where
@@ -87,4 +101,6 @@ pub record Leaves (head : Head) (table : List ℕ) (c : Call) (o : Outcome) : Ty
   pub poisoned : o .head .poisoned ≡ head .poisoned
   pub recordList : o .recordList ≡ written (numbersOf (destinations (changesOf c))) (c .recordList)
   pub set : (p : Posting) → present p (postings (o .head .used) (o .table)) ≡ saidOf head table c p
-  pub list : (l : List Posting) → ascending l ≡ true → ((p : Posting) → present p l ≡ saidOf head table c p) → (o .head .used ≡ length l) × (o .table ≡ laidOut (length table) l)
+  pub list :
+      (l : List Posting) → ascending l ≡ true → ((p : Posting) → present p l ≡ saidOf head table c p) →
+      (o .head .used ≡ length l) × (o .table ≡ laidOut (length table) l)

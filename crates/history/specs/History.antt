@@ -92,7 +92,9 @@ pub record Right (x : Index) (cs : List Call) : Type 0 where
   -- table and head are what the accepted calls alone say, in order
   pub table : after x cs ≡ holding x (said (accepted x cs) [])
   -- a count answered now is that table's own number (6 where its binding is not below the count)
-  pub counts : (binding key : ℕ) → countedIn (after x cs) binding key ≡ cond (ltb binding (x .head .bindings)) (Answer.Accepted (counted binding key (said (accepted x cs) []))) (Answer.Guard 0)
+  pub counts :
+      (binding key : ℕ) →
+      countedIn (after x cs) binding key ≡ cond (ltb binding (x .head .bindings)) (Answer.Accepted (counted binding key (said (accepted x cs) []))) (Answer.Guard 0)
   -- the accepted calls replayed with empty strips, on an empty index of equal size and binding count, give the same table and
   -- head, and the same answers and records on the way, number for number
   pub replay : (y : Index) → Empty y → Alike x y → after y (map quiet (accepted x cs)) ≡ after x cs
@@ -112,7 +114,8 @@ pub record Break (x : Index) (cs : List Call) : Type 0 where
 pub record Withheld (x : Index) (cs : List Call) : Type 0 where
   pub break : Break x cs
   -- every publish is refused as poisoned and changes nothing
-  pub publishes : (c : Call) → published (after x cs) c ≡ asBefore (after x cs .head) (after x cs .table) (c .recordList) Answer.Poisoned
+  pub publishes :
+      (c : Call) → published (after x cs) c ≡ asBefore (after x cs .head) (after x cs .table) (c .recordList) Answer.Poisoned
   -- so is every count
   pub counts : (binding key : ℕ) → countedIn (after x cs) binding key ≡ Answer.Poisoned
   -- and table and head stay fixed, whatever is called

@@ -39,17 +39,30 @@ module _ (head : Head) (table : List ℕ) (c : Call) where
   -- postings.disjoint(destinations)
   abbrev pub Disjoint : Type 0
   Disjoint =
-      (k : ℕ) → k < length (destinations (changesOf c)) → present (getD (destinations (changesOf c)) k nowhere .posting) (postingsBefore head table) ≡ false
+      (k : ℕ) → k < length (destinations (changesOf c)) →
+      present (getD (destinations (changesOf c)) k nowhere .posting) (postingsBefore head table) ≡ false
 
   -- valid_indices: each number means a destination, none stands twice
   abbrev pub ValidIndices : Type 0
   ValidIndices =
-      (i : ℕ) → i < length (c .recordList) → (recordable (changesOf c) (getD (c .recordList) i 0) ≡ true) × (Repeated (c .recordList) i → ⊥)
+      (i : ℕ) → i < length (c .recordList) →
+      (recordable (changesOf c) (getD (c .recordList) i 0) ≡ true) × (Repeated (c .recordList) i → ⊥)
+
+  -- upstream's sets destinations, sources and recorded
+  abbrev pub destinationSet : List Posting
+  destinationSet = postingsOf (destinations (changesOf c))
+
+  abbrev pub sourceSet : List Posting
+  sourceSet = postingsOf (sources (changesOf c))
+
+  abbrev pub recordedSet : List Posting
+  recordedSet = postingsOf (recorded (changesOf c) (c .recordList))
 
   -- an error: 12 and 13 poison, every other leaves all as before
   pub record Errors (o : Outcome) : Type 0 where
     pub poisoned : poisons (o .answer) ≡ true → o .head .poisoned ≡ 1
-    pub others : isAccepted (o .answer) ≡ false → poisons (o .answer) ≡ false → o ≡ asBefore head table (c .recordList) (o .answer)
+    pub others :
+        isAccepted (o .answer) ≡ false → poisons (o .answer) ≡ false → o ≡ asBefore head table (c .recordList) (o .answer)
 
   -- rollback_index_destinations
   pub record RollbackClauses (o : Outcome) : Type 0 where
@@ -57,9 +70,11 @@ module _ (head : Head) (table : List ℕ) (c : Call) where
     pub requiresIndices : isAccepted (o .answer) ≡ true → ValidIndices
     pub stable : Stable head table o
     pub okFlag : isAccepted (o .answer) ≡ true → o .head .poisoned ≡ head .poisoned
-    pub okPostings : isAccepted (o .answer) ≡ true → (p : Posting) → present p (postingsLeft o) ≡ (present p (postingsBefore head table) && not (present p (postingsOf (recorded (changesOf c) (c .recordList)))))
+    pub okPostings :
+        isAccepted (o .answer) ≡ true → (p : Posting) →
+        present p (postingsLeft o) ≡ (present p (postingsBefore head table) && not (present p recordedSet))
     pub errors : Errors o
-    pub removedOnly : RemovedOnly (postingsBefore head table) (postingsLeft o) (postingsOf (recorded (changesOf c) (c .recordList)))
+    pub removedOnly : RemovedOnly (postingsBefore head table) (postingsLeft o) recordedSet
 
   -- prepare_index_destinations
   pub record PrepareClauses (o : Outcome) : Type 0 where
@@ -68,21 +83,28 @@ module _ (head : Head) (table : List ℕ) (c : Call) where
     pub requiresDisjoint : isAccepted (o .answer) ≡ true → Disjoint
     pub stable : Stable head table o
     pub okFlag : isAccepted (o .answer) ≡ true → o .head .poisoned ≡ head .poisoned
-    pub okPostings : isAccepted (o .answer) ≡ true → (p : Posting) → present p (postingsLeft o) ≡ (present p (postingsBefore head table) || present p (postingsOf (destinations (changesOf c))))
-    pub okRecord : isAccepted (o .answer) ≡ true → o .recordList ≡ written (numbersOf (destinations (changesOf c))) (c .recordList)
+    pub okPostings :
+        isAccepted (o .answer) ≡ true → (p : Posting) →
+        present p (postingsLeft o) ≡ (present p (postingsBefore head table) || present p destinationSet)
+    pub okRecord :
+        isAccepted (o .answer) ≡ true → o .recordList ≡ written (numbersOf (destinations (changesOf c))) (c .recordList)
     pub okNamed : isAccepted (o .answer) ≡ true → o .answer ≡ Answer.Accepted (length (numbersOf (destinations (changesOf c))))
     pub errors : Errors o
     pub keeps : (p : Posting) → present p (postingsBefore head table) ≡ true → present p (postingsLeft o) ≡ true
-    pub inside : (p : Posting) → present p (postingsLeft o) ≡ true → (present p (postingsBefore head table) || present p (postingsOf (destinations (changesOf c)))) ≡ true
+    pub inside :
+        (p : Posting) → present p (postingsLeft o) ≡ true →
+        (present p (postingsBefore head table) || present p destinationSet) ≡ true
 
   -- remove_index_sources
   pub record RemovalClauses (o : Outcome) : Type 0 where
     pub requiresValid : isAccepted (o .answer) ≡ true → Valid
     pub stable : Stable head table o
     pub okFlag : isAccepted (o .answer) ≡ true → o .head .poisoned ≡ head .poisoned
-    pub okPostings : isAccepted (o .answer) ≡ true → (p : Posting) → present p (postingsLeft o) ≡ (present p (postingsBefore head table) && not (present p (postingsOf (sources (changesOf c)))))
+    pub okPostings :
+        isAccepted (o .answer) ≡ true → (p : Posting) →
+        present p (postingsLeft o) ≡ (present p (postingsBefore head table) && not (present p sourceSet))
     pub errors : Errors o
-    pub removedOnly : RemovedOnly (postingsBefore head table) (postingsLeft o) (postingsOf (sources (changesOf c)))
+    pub removedOnly : RemovedOnly (postingsBefore head table) (postingsLeft o) sourceSet
 
 -- prefix_record, of the record that an accepted prepare writes
 pub record PrefixRecord (cs : List Change) (ns : List ℕ) : Type 0 where

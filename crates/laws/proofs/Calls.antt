@@ -26,7 +26,9 @@ use Rattle.laws.proofs.Answers.{refusal-unchanged, unchanged-poisons-no
 use Rattle.laws.proofs.Outcomes.{shown-same, IsStopped, cause-poisons-not, start, going, leaving, recordedBack, undid, removedAlone, Published, published, Prepares, prepares, RollsBack, rolls-back, Removes, removes}
 
 -- an outcome as before has its own answer
-own-answer : (head : Head) (table list : List ℕ) (o : Outcome) (a : Answer) → o ≡ asBefore head table list a → o ≡ asBefore head table list (o .answer)
+own-answer :
+    (head : Head) (table list : List ℕ) (o : Outcome) (a : Answer) → o ≡ asBefore head table list a →
+    o ≡ asBefore head table list (o .answer)
 own-answer head table list o a e = e ∙ ap (asBefore head table list) (sym (ap (λ (x : Outcome). x .answer) e))
 
 -- an answer that is none of these
@@ -35,7 +37,9 @@ not-unchanged a b h e k = absurd (clash (isUnchanged b) (rw e at h) k)
 
 module _ (head : Head) (table : List ℕ) (c : Call) where
   -- where prepare stopped with an answer of these, all was taken back
-  stopped-same : Clear head table c → IsStopped head table c → isUnchanged (prepared head table c .answer) ≡ true → shown head table (c .recordList) (prepared head table c) ≡ asBefore head table (c .recordList) (prepared head table c .answer)
+  stopped-same :
+      Clear head table c → IsStopped head table c → isUnchanged (prepared head table c .answer) ≡ true →
+      shown head table (c .recordList) (prepared head table c) ≡ asBefore head table (c .recordList) (prepared head table c .answer)
   stopped-same k s h =
       ⊎-elim
       (λ b.
@@ -44,37 +48,53 @@ module _ (head : Head) (table : List ℕ) (c : Call) where
       (λ b. not-unchanged (prepared head table c .answer) _ h (b .answers) refl)
       (s .undo)
 
-  pub publish-as-before : isUnchanged (publishOf head table c .answer) ≡ true → publishOf head table c ≡ asBefore head table (c .recordList) (publishOf head table c .answer)
+  pub publish-as-before :
+      isUnchanged (publishOf head table c .answer) ≡ true →
+      publishOf head table c ≡ asBefore head table (c .recordList) (publishOf head table c .answer)
   publish-as-before h = go (publishOf head table c) (published head table c) h
     where
-      go : (o : Outcome) → Published head table c o → isUnchanged (o .answer) ≡ true → o ≡ asBefore head table (c .recordList) (o .answer)
+      go :
+          (o : Outcome) → Published head table c o → isUnchanged (o .answer) ≡ true →
+          o ≡ asBefore head table (c .recordList) (o .answer)
       go o (Published.refused a e k) u = own-answer head table (c .recordList) o a k
       go o (Published.taken e r l k) u = not-unchanged (o .answer) _ u (ap (λ (x : Outcome). x .answer) k) refl
       go o (Published.halted e r l k) u = not-unchanged (o .answer) _ u (ap (λ (x : Outcome). x .answer) k ∙ l .answers) refl
       go o (Published.stopped e s k) u = rw k (stopped-same (publish-clear head table c e) s (rw k at u))
 
-  pub prepare-as-before : isUnchanged (prepareOf head table c .answer) ≡ true → prepareOf head table c ≡ asBefore head table (c .recordList) (prepareOf head table c .answer)
+  pub prepare-as-before :
+      isUnchanged (prepareOf head table c .answer) ≡ true →
+      prepareOf head table c ≡ asBefore head table (c .recordList) (prepareOf head table c .answer)
   prepare-as-before h = go (prepareOf head table c) (prepares head table c) h
     where
-      go : (o : Outcome) → Prepares head table c o → isUnchanged (o .answer) ≡ true → o ≡ asBefore head table (c .recordList) (o .answer)
+      go :
+          (o : Outcome) → Prepares head table c o → isUnchanged (o .answer) ≡ true →
+          o ≡ asBefore head table (c .recordList) (o .answer)
       go o (Prepares.refused a e k) u = own-answer head table (c .recordList) o a k
       go o (Prepares.ready e r k) u = not-unchanged (o .answer) _ u (ap (λ (x : Outcome). x .answer) k ∙ r .answers) refl
       go o (Prepares.stopped e s k) u = rw k (stopped-same (prepare-clear head table c e) s (rw k at u))
 
-  pub rollback-as-before : isUnchanged (rollbackOf head table c .answer) ≡ true → rollbackOf head table c ≡ asBefore head table (c .recordList) (rollbackOf head table c .answer)
+  pub rollback-as-before :
+      isUnchanged (rollbackOf head table c .answer) ≡ true →
+      rollbackOf head table c ≡ asBefore head table (c .recordList) (rollbackOf head table c .answer)
   rollback-as-before h = go (rollbackOf head table c) (rolls-back head table c) h
     where
-      go : (o : Outcome) → RollsBack head table c o → isUnchanged (o .answer) ≡ true → o ≡ asBefore head table (c .recordList) (o .answer)
+      go :
+          (o : Outcome) → RollsBack head table c o → isUnchanged (o .answer) ≡ true →
+          o ≡ asBefore head table (c .recordList) (o .answer)
       go o (RollsBack.refused a e k) u = own-answer head table (c .recordList) o a k
       go o (RollsBack.clean e r k) u =
           not-unchanged (o .answer) _ u (ap (λ (x : Outcome). x .answer) k ∙ ap (λ v. settled v (Answer.Accepted 0)) (r .verdict)) refl
       go o (RollsBack.failed e r k) u =
           not-unchanged (o .answer) _ u (ap (λ (x : Outcome). x .answer) k ∙ ap (λ v. settled v (Answer.Accepted 0)) (r .verdict)) refl
 
-  pub removal-as-before : isUnchanged (removalOf head table c .answer) ≡ true → removalOf head table c ≡ asBefore head table (c .recordList) (removalOf head table c .answer)
+  pub removal-as-before :
+      isUnchanged (removalOf head table c .answer) ≡ true →
+      removalOf head table c ≡ asBefore head table (c .recordList) (removalOf head table c .answer)
   removal-as-before h = go (removalOf head table c) (removes head table c) h
     where
-      go : (o : Outcome) → Removes head table c o → isUnchanged (o .answer) ≡ true → o ≡ asBefore head table (c .recordList) (o .answer)
+      go :
+          (o : Outcome) → Removes head table c o → isUnchanged (o .answer) ≡ true →
+          o ≡ asBefore head table (c .recordList) (o .answer)
       go o (Removes.refused a e k) u = own-answer head table (c .recordList) o a k
       go o (Removes.cleared e r k) u = not-unchanged (o .answer) _ u (ap (λ (x : Outcome). x .answer) k ∙ r .answers) refl
       go o (Removes.halted e r k) u = not-unchanged (o .answer) _ u (ap (λ (x : Outcome). x .answer) k ∙ r .answers) refl
@@ -87,20 +107,26 @@ module _ (head : Head) (table : List ℕ) (c : Call) where
   prepared-sound k =
       prepare-sound (head .bindings) (capacity table) (c .strip) (going head table c) [] 0 (start head table c) (k .bound) (start-sound (k .formed))
 
-  prepare-shows : prepareChecks head table c ≡ Verdict.Passes → Sound (head .bindings) (capacity table) (prepared head table c .postings)
+  prepare-shows :
+      prepareChecks head table c ≡ Verdict.Passes → Sound (head .bindings) (capacity table) (prepared head table c .postings)
   prepare-shows e = prepared-sound (prepare-clear head table c e)
 
-  rollback-shows : rollbackChecks head table c ≡ Verdict.Passes → Sound (head .bindings) (capacity table) (undid head table c .postings)
+  rollback-shows :
+      rollbackChecks head table c ≡ Verdict.Passes → Sound (head .bindings) (capacity table) (undid head table c .postings)
   rollback-shows e =
       undo-sound (head .bindings) (capacity table) (c .strip) (recordedBack head table c) Verdict.Passes 0 (start head table c)
       (start-sound (rollback-formed head table c e .0))
 
-  removal-shows : removalChecks head table c ≡ Verdict.Passes → Sound (head .bindings) (capacity table) (removedAlone head table c .postings)
+  removal-shows :
+      removalChecks head table c ≡ Verdict.Passes →
+      Sound (head .bindings) (capacity table) (removedAlone head table c .postings)
   removal-shows e =
       remove-sound (c .strip) (Answer.Accepted 0) (head .bindings) (capacity table) (leaving head table c) 0 (start head table c)
       (start-sound (removal-formed head table c e .0))
 
-  publish-shows : publishChecks head table c ≡ Verdict.Passes → Sound (head .bindings) (capacity table) (thenSources (c .strip) (leaving head table c) (prepared head table c) .postings)
+  publish-shows :
+      publishChecks head table c ≡ Verdict.Passes →
+      Sound (head .bindings) (capacity table) (thenSources (c .strip) (leaving head table c) (prepared head table c) .postings)
   publish-shows e =
       let s = prepared-sound (publish-clear head table c e) in
       by-cases (λ (t : Stage). Sound (head .bindings) (capacity table) (t .postings)) (isAccepted (prepared head table c .answer))
@@ -108,32 +134,42 @@ module _ (head : Head) (table : List ℕ) (c : Call) where
       (λ a. s)
 
   -- so a well-formed table stays well formed
-  decided-well-formed : (v : Verdict) (list : List ℕ) (s : Stage) → wellFormed head table ≡ true → (v ≡ Verdict.Passes → Sound (head .bindings) (capacity table) (s .postings)) → wellFormed (decided v (asBefore head table (c .recordList)) (shown head table list s) .head) (decided v (asBefore head table (c .recordList)) (shown head table list s) .table) ≡ true
+  decided-well-formed :
+      (v : Verdict) (list : List ℕ) (s : Stage) → wellFormed head table ≡ true →
+      (v ≡ Verdict.Passes → Sound (head .bindings) (capacity table) (s .postings)) →
+      wellFormed (decided v (asBefore head table (c .recordList)) (shown head table list s) .head) (decided v (asBefore head table (c .recordList)) (shown head table list s) .table) ≡ true
   decided-well-formed (Verdict.Refused a) list s h f = h
   decided-well-formed Verdict.Passes list s h f =
       let w = well-formed-parts head table h in
       well-formed-laid-out head (headAfter head (s .answer) (s .postings)) table (s .postings) w (f refl) refl refl
       (by-cases (λ (n : ℕ). n ≤ 1) (poisons (s .answer)) (λ e. omega arith) (λ e. w .flag))
 
-  pub prepare-well-formed : wellFormed head table ≡ true → wellFormed (prepareOf head table c .head) (prepareOf head table c .table) ≡ true
+  pub prepare-well-formed :
+      wellFormed head table ≡ true → wellFormed (prepareOf head table c .head) (prepareOf head table c .table) ≡ true
   unfolding prepareOf
   prepare-well-formed h = decided-well-formed (prepareChecks head table c) _ (prepared head table c) h prepare-shows
 
-  pub rollback-well-formed : wellFormed head table ≡ true → wellFormed (rollbackOf head table c .head) (rollbackOf head table c .table) ≡ true
+  pub rollback-well-formed :
+      wellFormed head table ≡ true → wellFormed (rollbackOf head table c .head) (rollbackOf head table c .table) ≡ true
   unfolding rollbackOf
   rollback-well-formed h = decided-well-formed (rollbackChecks head table c) _ (rolledBack (undid head table c)) h rollback-shows
 
-  pub removal-well-formed : wellFormed head table ≡ true → wellFormed (removalOf head table c .head) (removalOf head table c .table) ≡ true
+  pub removal-well-formed :
+      wellFormed head table ≡ true → wellFormed (removalOf head table c .head) (removalOf head table c .table) ≡ true
   unfolding removalOf
   removal-well-formed h = decided-well-formed (removalChecks head table c) _ (removedAlone head table c) h removal-shows
 
-  pub publish-well-formed : wellFormed head table ≡ true → wellFormed (publishOf head table c .head) (publishOf head table c .table) ≡ true
+  pub publish-well-formed :
+      wellFormed head table ≡ true → wellFormed (publishOf head table c .head) (publishOf head table c .table) ≡ true
   unfolding publishOf
   publish-well-formed h =
       decided-well-formed (publishChecks head table c) _ (thenSources (c .strip) (leaving head table c) (prepared head table c)) h publish-shows
 
   -- and binding count and size stay at every answer, and the poison flag at all but 12 and 13
-  decided-stable : (v : Verdict) (list : List ℕ) (s : Stage) → isProper v ≡ true → (v ≡ Verdict.Passes → Sound (head .bindings) (capacity table) (s .postings)) → Stable head table (decided v (asBefore head table (c .recordList)) (shown head table list s))
+  decided-stable :
+      (v : Verdict) (list : List ℕ) (s : Stage) → isProper v ≡ true →
+      (v ≡ Verdict.Passes → Sound (head .bindings) (capacity table) (s .postings)) →
+      Stable head table (decided v (asBefore head table (c .recordList)) (shown head table list s))
   decided-stable (Verdict.Refused a) list s h f =
       record { bindings = refl; flag = rw (unchanged-poisons-not a (refusal-unchanged a h)); size = refl }
   decided-stable Verdict.Passes list s h f =

@@ -49,7 +49,9 @@ pub none-left : firstRefusal [] ≡ Verdict.Passes
 unfolding firstRefusal
 none-left = refl
 
-pub cons-passes : (v : Verdict) (vs : List Verdict) → v ≡ Verdict.Passes → firstRefusal vs ≡ Verdict.Passes → firstRefusal (v ∷ vs) ≡ Verdict.Passes
+pub cons-passes :
+    (v : Verdict) (vs : List Verdict) → v ≡ Verdict.Passes → firstRefusal vs ≡ Verdict.Passes →
+    firstRefusal (v ∷ vs) ≡ Verdict.Passes
 unfolding firstRefusal
 cons-passes v vs h k = rw (h, k)
 
@@ -70,11 +72,15 @@ proper-none : isProper (firstRefusal []) ≡ true
 unfolding firstRefusal
 proper-none = refl
 
-proper-cons : (v : Verdict) (vs : List Verdict) → isProper v ≡ true → isProper (firstRefusal vs) ≡ true → isProper (firstRefusal (v ∷ vs)) ≡ true
+proper-cons :
+    (v : Verdict) (vs : List Verdict) → isProper v ≡ true → isProper (firstRefusal vs) ≡ true →
+    isProper (firstRefusal (v ∷ vs)) ≡ true
 unfolding firstRefusal
 proper-cons v vs h k = proper-else v (firstRefusal vs) h k
 
-proper-failing : {A : Type 0} (test : A → Bool) (answer : ℕ → A → Answer) (i : ℕ) (xs : List A) → ((k : ℕ) (x : A) → isRefusal (answer k x) ≡ true) → isProper (firstFailing test answer i xs) ≡ true
+proper-failing :
+    {A : Type 0} (test : A → Bool) (answer : ℕ → A → Answer) (i : ℕ) (xs : List A) →
+    ((k : ℕ) (x : A) → isRefusal (answer k x) ≡ true) → isProper (firstFailing test answer i xs) ≡ true
 unfolding firstFailing
 proper-failing test answer i [] h = refl
 proper-failing test answer i (x ∷ xs) h =
@@ -180,17 +186,23 @@ pub refuses : (v : Verdict) (a : Answer) → isProper v ≡ true → v ≡ Verdi
 refuses v a h e = rw e at h
 
 -- where no element fails, the first passes and so do the rest
-pub failing-first : {A : Type 0} (test : A → Bool) (answer : ℕ → A → Answer) (i : ℕ) (x : A) (xs : List A) → firstFailing test answer i (x ∷ xs) ≡ Verdict.Passes → test x ≡ true
+pub failing-first :
+    {A : Type 0} (test : A → Bool) (answer : ℕ → A → Answer) (i : ℕ) (x : A) (xs : List A) →
+    firstFailing test answer i (x ∷ xs) ≡ Verdict.Passes → test x ≡ true
 unfolding firstFailing
 failing-first test answer i x xs h =
     must-holds (test x) (answer i x) (else-first (must (test x) (answer i x)) (firstFailing test answer (i + 1) xs) h)
 
-pub failing-rest : {A : Type 0} (test : A → Bool) (answer : ℕ → A → Answer) (i : ℕ) (x : A) (xs : List A) → firstFailing test answer i (x ∷ xs) ≡ Verdict.Passes → firstFailing test answer (i + 1) xs ≡ Verdict.Passes
+pub failing-rest :
+    {A : Type 0} (test : A → Bool) (answer : ℕ → A → Answer) (i : ℕ) (x : A) (xs : List A) →
+    firstFailing test answer i (x ∷ xs) ≡ Verdict.Passes → firstFailing test answer (i + 1) xs ≡ Verdict.Passes
 unfolding firstFailing
 failing-rest test answer i x xs h = else-second (must (test x) (answer i x)) (firstFailing test answer (i + 1) xs) h
 
 -- a guarded change names destinations within the binding count
-guarded-within : (n : ℕ) (gs : List Guard) (i : ℕ) (c : Change) (ds : List Numbered) → guarded n gs c ≡ true → every (within n) (postingsOf ds) ≡ true → every (within n) (postingsOf (named i c (destinationOf c) ds)) ≡ true
+guarded-within :
+    (n : ℕ) (gs : List Guard) (i : ℕ) (c : Change) (ds : List Numbered) → guarded n gs c ≡ true →
+    every (within n) (postingsOf ds) ≡ true → every (within n) (postingsOf (named i c (destinationOf c) ds)) ≡ true
 unfolding guarded every within
 guarded-within n gs i c ds h k = go (destinationOf c)
   where
@@ -203,7 +215,9 @@ guarded-within n gs i c ds h k = go (destinationOf c)
     go Key.Missing = k
     go (Key.Named key) = both (ltb (c .binding) n) (every (within n) (postingsOf ds)) below k
 
-destinations-within : (n : ℕ) (gs : List Guard) (answer : ℕ → Change → Answer) (i j : ℕ) (cs : List Change) → firstFailing (guarded n gs) answer j cs ≡ Verdict.Passes → every (within n) (postingsOf (destinationsFrom i cs)) ≡ true
+destinations-within :
+    (n : ℕ) (gs : List Guard) (answer : ℕ → Change → Answer) (i j : ℕ) (cs : List Change) →
+    firstFailing (guarded n gs) answer j cs ≡ Verdict.Passes → every (within n) (postingsOf (destinationsFrom i cs)) ≡ true
 unfolding destinationsFrom every
 destinations-within n gs answer i j [] h = refl
 destinations-within n gs answer i j (c ∷ cs) h =
@@ -211,7 +225,10 @@ destinations-within n gs answer i j (c ∷ cs) h =
     (destinations-within n gs answer (i + 1) (j + 1) cs (failing-rest (guarded n gs) answer j c cs h))
 
 -- destinations that are neither in the table nor twice in the list are new, each when its turn comes
-not-among : (d : Numbered) (answer : ℕ → Numbered → Answer) (i : ℕ) (es : List Numbered) → firstFailing (λ (e : Numbered). not (same (e .posting) (d .posting))) answer i es ≡ Verdict.Passes → present (d .posting) (postingsOf es) ≡ false
+not-among :
+    (d : Numbered) (answer : ℕ → Numbered → Answer) (i : ℕ) (es : List Numbered) →
+    firstFailing (λ (e : Numbered). not (same (e .posting) (d .posting))) answer i es ≡ Verdict.Passes →
+    present (d .posting) (postingsOf es) ≡ false
 unfolding present
 not-among d answer i [] h = refl
 not-among d answer i (e ∷ es) h =
@@ -223,12 +240,17 @@ not-earlier : (d : Numbered) (es : List Numbered) → equalTo d es ≡ Verdict.P
 unfolding equalTo
 not-earlier d es h = not-among d _ 0 es h
 
-present-last : (p : Posting) (es : List Numbered) (d : Numbered) → present p (postingsOf (es ++ d ∷ [])) ≡ (same p (d .posting) || present p (postingsOf es))
+present-last :
+    (p : Posting) (es : List Numbered) (d : Numbered) →
+    present p (postingsOf (es ++ d ∷ [])) ≡ (same p (d .posting) || present p (postingsOf es))
 unfolding present
 present-last p [] d = refl
 present-last p (e ∷ es) d = rw (present-last p es d) (or-swap (same p (e .posting)) (same p (d .posting)) (present p (postingsOf es)))
 
-fresh-from : (ps l : List Posting) (earlier ds : List Numbered) (answer : ℕ → Numbered → Answer) (i : ℕ) → ((p : Posting) → present p l ≡ (present p (postingsOf earlier) || present p ps)) → twiceFrom earlier ds ≡ Verdict.Passes → firstFailing (λ (d : Numbered). not (present (d .posting) ps)) answer i ds ≡ Verdict.Passes → Fresh ds l
+fresh-from :
+    (ps l : List Posting) (earlier ds : List Numbered) (answer : ℕ → Numbered → Answer) (i : ℕ) →
+    ((p : Posting) → present p l ≡ (present p (postingsOf earlier) || present p ps)) → twiceFrom earlier ds ≡ Verdict.Passes →
+    firstFailing (λ (d : Numbered). not (present (d .posting) ps)) answer i ds ≡ Verdict.Passes → Fresh ds l
 unfolding twiceFrom
 fresh-from ps l earlier [] answer i f h k = tt
 fresh-from ps l earlier (d ∷ ds) answer i f h k = (
@@ -262,10 +284,15 @@ module _ (head : Head) (table : List ℕ) (c : Call) where
   healthy-of h = eqb-true (head .poisoned) 0 (must-holds (eqb (head .poisoned) 0) Answer.Poisoned h)
 
   -- every call begins with 1 and 2, prepare and publish with 1 to 8
-  formed-first : (vs : List Verdict) → firstRefusal (tableCheck head table ∷ poisonCheck head ∷ vs) ≡ Verdict.Passes → (wellFormed head table ≡ true) × (head .poisoned ≡ 0)
+  formed-first :
+      (vs : List Verdict) → firstRefusal (tableCheck head table ∷ poisonCheck head ∷ vs) ≡ Verdict.Passes →
+      (wellFormed head table ≡ true) × (head .poisoned ≡ 0)
   formed-first vs h = (formed-of (first-passes _ _ h), healthy-of (first-passes _ _ (rest-passes _ _ h)))
 
-  clear-first : (vs : List Verdict) → firstRefusal (tableCheck head table ∷ poisonCheck head ∷ listCheck c ∷ stripCheck c ∷ roomCheck c ∷ guardCheck head c ∷ twiceCheck c ∷ presentCheck head table c ∷ vs) ≡ Verdict.Passes → Clear head table c
+  clear-first :
+      (vs : List Verdict) →
+      firstRefusal (tableCheck head table ∷ poisonCheck head ∷ listCheck c ∷ stripCheck c ∷ roomCheck c ∷ guardCheck head c ∷ twiceCheck c ∷ presentCheck head table c ∷ vs) ≡ Verdict.Passes →
+      Clear head table c
   unfolding roomCheck guardCheck twiceCheck presentCheck present
   clear-first vs h1 =
       let h5 = rest-passes _ _ (rest-passes _ _ (rest-passes _ _ (rest-passes _ _ h1))) in

@@ -151,12 +151,17 @@ pub record Sound (bindings size : ℕ) (ps : List Posting) : Type 0 where
   pub sorted : ascending ps ≡ true
   pub bound : every (within bindings) ps ≡ true
 
-pub sound-postings : (head : Head) (table : List ℕ) → WellFormed head table → Sound (head .bindings) (capacity table) (postings (head .used) table)
+pub sound-postings :
+    (head : Head) (table : List ℕ) → WellFormed head table →
+    Sound (head .bindings) (capacity table) (postings (head .used) table)
 sound-postings head table w =
     record { room = rw (used-postings head table w) (w .room); sorted = w .sorted; bound = w .bound }
 
 -- laid out in the same table, sound postings are well formed
-pub well-formed-laid-out : (head after : Head) (table : List ℕ) (ps : List Posting) → WellFormed head table → Sound (head .bindings) (capacity table) ps → after .bindings ≡ head .bindings → after .used ≡ length ps → after .poisoned ≤ 1 → wellFormed after (laidOut (length table) ps) ≡ true
+pub well-formed-laid-out :
+    (head after : Head) (table : List ℕ) (ps : List Posting) → WellFormed head table →
+    Sound (head .bindings) (capacity table) ps → after .bindings ≡ head .bindings → after .used ≡ length ps →
+    after .poisoned ≤ 1 → wellFormed after (laidOut (length table) ps) ≡ true
 well-formed-laid-out head after table ps w s eb eu ep =
     parts-well-formed after (laidOut (length table) ps)
     (record {

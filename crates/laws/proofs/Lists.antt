@@ -31,7 +31,9 @@ unfolding present inserted
 present-inserted p q [] = refl
 present-inserted p q (x ∷ xs) = go (compared q x) refl (present-inserted p q xs)
   where
-    go : (o : Order) → compared q x ≡ o → present p (inserted q xs) ≡ (same p q || present p xs) → present p (placed o q x xs (inserted q xs)) ≡ (same p q || (same p x || present p xs))
+    go :
+        (o : Order) → compared q x ≡ o → present p (inserted q xs) ≡ (same p q || present p xs) →
+        present p (placed o q x xs (inserted q xs)) ≡ (same p q || (same p x || present p xs))
     go Order.Before e ih = refl
     go Order.Same e ih =
         let k : same p q ≡ same p x = ap (same p) (compared-same q x e) in
@@ -54,7 +56,9 @@ unfolding present removed
 present-removed p q [] = refl
 present-removed p q (x ∷ xs) = go (same q x) refl (present-removed p q xs)
   where
-    go : (b : Bool) → same q x ≡ b → present p (removed q xs) ≡ (present p xs && not (same p q)) → present p (cond b (removed q xs) (x ∷ removed q xs)) ≡ ((same p x || present p xs) && not (same p q))
+    go :
+        (b : Bool) → same q x ≡ b → present p (removed q xs) ≡ (present p xs && not (same p q)) →
+        present p (cond b (removed q xs) (x ∷ removed q xs)) ≡ ((same p x || present p xs) && not (same p q))
     go true e ih =
         let k : same p x ≡ same p q = ap (same p) (sym (same-equal q x e)) in
         rw (ih, k) (not-twice (same p q) (present p xs))
@@ -97,7 +101,9 @@ unfolding present inserted same
 length-inserted p [] h = refl
 length-inserted p (x ∷ xs) h = go (compared p x) refl (length-inserted p xs (or-right (same p x) (present p xs) h))
   where
-    go : (o : Order) → compared p x ≡ o → length (inserted p xs) ≡ suc (length xs) → length (placed o p x xs (inserted p xs)) ≡ suc (suc (length xs))
+    go :
+        (o : Order) → compared p x ≡ o → length (inserted p xs) ≡ suc (length xs) →
+        length (placed o p x xs (inserted p xs)) ≡ suc (suc (length xs))
     go Order.Before e ih = refl
     go Order.Same e ih = absurd (clash (same p x) (ap isSame e) (or-left (same p x) (present p xs) h))
     go Order.After e ih = ap suc ih
@@ -107,7 +113,9 @@ unfolding inserted
 length-inserted-most p [] = omega arith
 length-inserted-most p (x ∷ xs) = go (compared p x) (length-inserted-most p xs)
   where
-    go : (o : Order) → length (inserted p xs) ≤ suc (length xs) → length (placed o p x xs (inserted p xs)) ≤ suc (suc (length xs))
+    go :
+        (o : Order) → length (inserted p xs) ≤ suc (length xs) →
+        length (placed o p x xs (inserted p xs)) ≤ suc (suc (length xs))
     go Order.Before ih = omega arith
     go Order.Same ih = omega arith
     go Order.After ih = omega arith

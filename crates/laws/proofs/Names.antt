@@ -26,7 +26,9 @@ use Rattle.laws.proofs.Lists.{or-swap}
 use Rattle.laws.proofs.Checks.{failing-first, failing-rest}
 
 -- where none fails
-pub failing-passes : {A : Type 0} (none : A) (test : A → Bool) (answer : ℕ → A → Answer) (i : ℕ) (xs : List A) → firstFailing test answer i xs ≡ Verdict.Passes → (k : ℕ) → k < length xs → test (getD xs k none) ≡ true
+pub failing-passes :
+    {A : Type 0} (none : A) (test : A → Bool) (answer : ℕ → A → Answer) (i : ℕ) (xs : List A) →
+    firstFailing test answer i xs ≡ Verdict.Passes → (k : ℕ) → k < length xs → test (getD xs k none) ≡ true
 failing-passes none test answer i [] h k l = absurd (omega arith)
 failing-passes none test answer i (x ∷ xs) h zero l = failing-first test answer i x xs h
 failing-passes none test answer i (x ∷ xs) h (suc k) l =
@@ -38,7 +40,9 @@ pub record Named {A : Type 0} (none : A) (test : A → Bool) (answer : ℕ → A
   pub first : FirstAt test none xs at
   pub names : a ≡ answer (i + at) (getD xs at none)
 
-pub failing-names : {A : Type 0} (none : A) (test : A → Bool) (answer : ℕ → A → Answer) (i : ℕ) (xs : List A) (a : Answer) → firstFailing test answer i xs ≡ Verdict.Refused a → Named none test answer i xs a
+pub failing-names :
+    {A : Type 0} (none : A) (test : A → Bool) (answer : ℕ → A → Answer) (i : ℕ) (xs : List A) (a : Answer) →
+    firstFailing test answer i xs ≡ Verdict.Refused a → Named none test answer i xs a
 unfolding firstFailing
 failing-names none test answer i [] a h = let z : _≡_ {A = ℕ} 0 1 = cc in absurd (omega arith)
 failing-names none test answer i (x ∷ xs) a h = go (test x) refl (failing-names none test answer (i + 1) xs a) h
@@ -46,7 +50,11 @@ failing-names none test answer i (x ∷ xs) a h = go (test x) refl (failing-name
     refused : {v w : Answer} → Verdict.Refused v ≡ Verdict.Refused w → v ≡ w
     refused {v} {w} e = cc
 
-    go : (b : Bool) → test x ≡ b → (firstFailing test answer (i + 1) xs ≡ Verdict.Refused a → Named none test answer (i + 1) xs a) → orElse (must b (answer i x)) (firstFailing test answer (i + 1) xs) ≡ Verdict.Refused a → Named none test answer i (x ∷ xs) a
+    go :
+        (b : Bool) → test x ≡ b →
+        (firstFailing test answer (i + 1) xs ≡ Verdict.Refused a → Named none test answer (i + 1) xs a) →
+        orElse (must b (answer i x)) (firstFailing test answer (i + 1) xs) ≡ Verdict.Refused a →
+        Named none test answer i (x ∷ xs) a
     go false e ih h =
         let n : i ≡ i + 0 = omega arith in
         record {
@@ -68,37 +76,51 @@ failing-names none test answer i (x ∷ xs) a h = go (test x) refl (failing-name
           names = r .names ∙ ap (λ k. answer k (getD xs (r .at) none)) n;
         }
       where
-        earlier : (m : ℕ) → ((k : ℕ) → k < m → test (getD xs k none) ≡ true) → (k : ℕ) → k < suc m → test (getD (x ∷ xs) k none) ≡ true
+        earlier :
+            (m : ℕ) → ((k : ℕ) → k < m → test (getD xs k none) ≡ true) → (k : ℕ) → k < suc m →
+            test (getD (x ∷ xs) k none) ≡ true
         earlier m f zero l = e
         earlier m f (suc k) l = f k (omega arith)
 
 -- 6, 8 and 9
 module _ (head : Head) (table : List ℕ) (c : Call) where
-  pub guard-passes : guardCheck head c ≡ Verdict.Passes → (k : ℕ) → k < length (changesOf c) → guarded (head .bindings) (guards (c .guardList)) (getD (changesOf c) k noChange) ≡ true
+  pub guard-passes :
+      guardCheck head c ≡ Verdict.Passes → (k : ℕ) → k < length (changesOf c) →
+      guarded (head .bindings) (guards (c .guardList)) (getD (changesOf c) k noChange) ≡ true
   unfolding guardCheck
   guard-passes h = failing-passes noChange _ _ 0 (changesOf c) h
 
-  pub guard-names : (a : Answer) → guardCheck head c ≡ Verdict.Refused a → (k : ℕ) × FirstAt (guarded (head .bindings) (guards (c .guardList))) noChange (changesOf c) k × (a ≡ Answer.Guard k)
+  pub guard-names :
+      (a : Answer) → guardCheck head c ≡ Verdict.Refused a →
+      (k : ℕ) × FirstAt (guarded (head .bindings) (guards (c .guardList))) noChange (changesOf c) k × (a ≡ Answer.Guard k)
   unfolding guardCheck
   guard-names a h =
       let n = failing-names noChange _ _ 0 (changesOf c) a h in
       (n .at, n .first, n .names ∙ ap Answer.Guard (zero-add (n .at)))
 
-  pub present-passes : presentCheck head table c ≡ Verdict.Passes → (k : ℕ) → k < length (destinations (changesOf c)) → present (getD (destinations (changesOf c)) k nowhere .posting) (postings (head .used) table) ≡ false
+  pub present-passes :
+      presentCheck head table c ≡ Verdict.Passes → (k : ℕ) → k < length (destinations (changesOf c)) →
+      present (getD (destinations (changesOf c)) k nowhere .posting) (postings (head .used) table) ≡ false
   unfolding presentCheck
   present-passes h k l = not-true _ (failing-passes nowhere _ _ 0 (destinations (changesOf c)) h k l)
 
-  pub present-names : (a : Answer) → presentCheck head table c ≡ Verdict.Refused a → (k : ℕ) × FirstAt (λ (d : Numbered). not (present (d .posting) (postings (head .used) table))) nowhere (destinations (changesOf c)) k × (a ≡ Answer.Present (numberAt (destinations (changesOf c)) k))
+  pub present-names :
+      (a : Answer) → presentCheck head table c ≡ Verdict.Refused a →
+      (k : ℕ) × FirstAt (λ (d : Numbered). not (present (d .posting) (postings (head .used) table))) nowhere (destinations (changesOf c)) k × (a ≡ Answer.Present (numberAt (destinations (changesOf c)) k))
   unfolding presentCheck
   present-names a h =
       let n = failing-names nowhere _ _ 0 (destinations (changesOf c)) a h in
       (n .at, n .first, n .names)
 
-  pub overlap-passes : overlapCheck c ≡ Verdict.Passes → (k : ℕ) → k < length (sources (changesOf c)) → present (getD (sources (changesOf c)) k nowhere .posting) (postingsOf (destinations (changesOf c))) ≡ false
+  pub overlap-passes :
+      overlapCheck c ≡ Verdict.Passes → (k : ℕ) → k < length (sources (changesOf c)) →
+      present (getD (sources (changesOf c)) k nowhere .posting) (postingsOf (destinations (changesOf c))) ≡ false
   unfolding overlapCheck
   overlap-passes h k l = not-true _ (failing-passes nowhere _ _ 0 (sources (changesOf c)) h k l)
 
-  pub overlap-names : (a : Answer) → overlapCheck c ≡ Verdict.Refused a → (k : ℕ) × FirstAt (λ (s : Numbered). not (present (s .posting) (postingsOf (destinations (changesOf c))))) nowhere (sources (changesOf c)) k × (a ≡ Answer.Overlap (numberAt (sources (changesOf c)) k))
+  pub overlap-names :
+      (a : Answer) → overlapCheck c ≡ Verdict.Refused a →
+      (k : ℕ) × FirstAt (λ (s : Numbered). not (present (s .posting) (postingsOf (destinations (changesOf c))))) nowhere (sources (changesOf c)) k × (a ≡ Answer.Overlap (numberAt (sources (changesOf c)) k))
   unfolding overlapCheck
   overlap-names a h =
       let n = failing-names nowhere _ _ 0 (sources (changesOf c)) a h in
@@ -139,7 +161,9 @@ module _ (all earlier : List Numbered) (d : Numbered) (ds : List Numbered) (e : 
           let w = longer in
           f l m x (omega arith)
 
-  pair-here : (a : Answer) → Apart all (length earlier) → equalTo d earlier ≡ Verdict.Refused a → (i : ℕ) × FirstPair all i (length earlier) × (a ≡ Answer.Twice (numberAt all i) (numberAt all (length earlier)))
+  pair-here :
+      (a : Answer) → Apart all (length earlier) → equalTo d earlier ≡ Verdict.Refused a →
+      (i : ℕ) × FirstPair all i (length earlier) × (a ≡ Answer.Twice (numberAt all i) (numberAt all (length earlier)))
   unfolding equalTo
   pair-here a f h =
       let n = failing-names nowhere _ _ 0 earlier a h in
@@ -161,7 +185,9 @@ pub record Pair (ds : List Numbered) (a : Answer) : Type 0 where
   pub first : FirstPair ds i j
   pub names : a ≡ Answer.Twice (numberAt ds i) (numberAt ds j)
 
-twice-from : (all earlier ds : List Numbered) → all ≡ earlier ++ ds → Apart all (length earlier) → (twiceFrom earlier ds ≡ Verdict.Passes → Apart all (length all)) × ((a : Answer) → twiceFrom earlier ds ≡ Verdict.Refused a → Pair all a)
+twice-from :
+    (all earlier ds : List Numbered) → all ≡ earlier ++ ds → Apart all (length earlier) →
+    (twiceFrom earlier ds ≡ Verdict.Passes → Apart all (length all)) × ((a : Answer) → twiceFrom earlier ds ≡ Verdict.Refused a → Pair all a)
 unfolding twiceFrom
 twice-from all earlier [] e f = (
   (λ h. let n : length all ≡ length earlier = ap length e ∙ (length-append earlier [] ∙ omega arith) in rw n f),
@@ -171,7 +197,10 @@ twice-from all earlier (d ∷ ds) e f =
     go (equalTo d earlier) refl
     (λ h. twice-from all (earlier ++ d ∷ []) ds (further all earlier d ds e) (apart-more all earlier d ds e f h))
   where
-    go : (v : Verdict) → equalTo d earlier ≡ v → (equalTo d earlier ≡ Verdict.Passes → (twiceFrom (earlier ++ d ∷ []) ds ≡ Verdict.Passes → Apart all (length all)) × ((a : Answer) → twiceFrom (earlier ++ d ∷ []) ds ≡ Verdict.Refused a → Pair all a)) → (orElse v (twiceFrom (earlier ++ d ∷ []) ds) ≡ Verdict.Passes → Apart all (length all)) × ((a : Answer) → orElse v (twiceFrom (earlier ++ d ∷ []) ds) ≡ Verdict.Refused a → Pair all a)
+    go :
+        (v : Verdict) → equalTo d earlier ≡ v →
+        (equalTo d earlier ≡ Verdict.Passes → (twiceFrom (earlier ++ d ∷ []) ds ≡ Verdict.Passes → Apart all (length all)) × ((a : Answer) → twiceFrom (earlier ++ d ∷ []) ds ≡ Verdict.Refused a → Pair all a)) →
+        (orElse v (twiceFrom (earlier ++ d ∷ []) ds) ≡ Verdict.Passes → Apart all (length all)) × ((a : Answer) → orElse v (twiceFrom (earlier ++ d ∷ []) ds) ≡ Verdict.Refused a → Pair all a)
     go Verdict.Passes h ih = ih h
     go (Verdict.Refused b) h ih = (
       (λ k. let z : _≡_ {A = ℕ} 0 1 = cc in absurd (omega arith)),
@@ -199,7 +228,9 @@ unfolding among
 among-at n [] h = absurd (clash false h refl)
 among-at n (m ∷ ms) h = go (eqb n m) refl (among-at n ms) h
   where
-    go : (b : Bool) → eqb n m ≡ b → (among n ms ≡ true → (i : ℕ) × (i < length ms) × (getD ms i 0 ≡ n)) → (b || among n ms) ≡ true → (i : ℕ) × (i < length (m ∷ ms)) × (getD (m ∷ ms) i 0 ≡ n)
+    go :
+        (b : Bool) → eqb n m ≡ b → (among n ms ≡ true → (i : ℕ) × (i < length ms) × (getD ms i 0 ≡ n)) →
+        (b || among n ms) ≡ true → (i : ℕ) × (i < length (m ∷ ms)) × (getD (m ∷ ms) i 0 ≡ n)
     go true e ih k = (0, omega arith, sym (eqb-true n m e))
     go false e ih k = let r = ih k in let t = r .1 in (suc (r .0), omega arith, r .2)
 
@@ -253,7 +284,8 @@ module _ (cs : List Change) (all pre : List ℕ) (n : ℕ) (ns earlier : List �
   unfolding among
   tally m = ap (λ b. eqb m n || b) (f m) ∙ sym (among-snoc m pre n)
 
-  fine-more : AllFine cs all (length pre) → recordable cs n ≡ true → among n earlier ≡ false → AllFine cs all (length (pre ++ n ∷ []))
+  fine-more :
+      AllFine cs all (length pre) → recordable cs n ≡ true → among n earlier ≡ false → AllFine cs all (length (pre ++ n ∷ []))
   fine-more g h k i l = go (eqb i (length pre)) refl
     where
       go : (b : Bool) → eqb i (length pre) ≡ b → Fine cs all i
@@ -264,11 +296,16 @@ module _ (cs : List Change) (all pre : List ℕ) (n : ℕ) (ns earlier : List �
   bad-here : AllFine cs all (length pre) → (recordable cs n && not (among n earlier)) ≡ false → FirstBad cs all (length pre)
   bad-here g h = record { there = place-here; bad = go (recordable cs n) refl h; before = g }
     where
-      go : (b : Bool) → recordable cs n ≡ b → (b && not (among n earlier)) ≡ false → (recordable cs (getD all (length pre) 0) ≡ false) ⊎ Repeated all (length pre)
+      go :
+          (b : Bool) → recordable cs n ≡ b → (b && not (among n earlier)) ≡ false →
+          (recordable cs (getD all (length pre) 0) ≡ false) ⊎ Repeated all (length pre)
       go true x y = inr (repeat-here (not-false (among n earlier) y))
       go false x y = inl (ap (recordable cs) number-here ∙ x)
 
-record-from : (cs : List Change) (all pre ns earlier : List ℕ) → all ≡ pre ++ ns → ((m : ℕ) → among m earlier ≡ among m pre) → AllFine cs all (length pre) → (recordFrom (length pre) cs earlier ns ≡ Verdict.Passes → AllFine cs all (length all)) × ((a : Answer) → recordFrom (length pre) cs earlier ns ≡ Verdict.Refused a → BadPlace cs all a)
+record-from :
+    (cs : List Change) (all pre ns earlier : List ℕ) → all ≡ pre ++ ns → ((m : ℕ) → among m earlier ≡ among m pre) →
+    AllFine cs all (length pre) →
+    (recordFrom (length pre) cs earlier ns ≡ Verdict.Passes → AllFine cs all (length all)) × ((a : Answer) → recordFrom (length pre) cs earlier ns ≡ Verdict.Refused a → BadPlace cs all a)
 unfolding recordFrom
 record-from cs all pre [] earlier e f g = (
   (λ h. let n : length all ≡ length pre = ap length e ∙ (length-append pre [] ∙ omega arith) in rw n g),
@@ -284,14 +321,18 @@ record-from cs all pre (n ∷ ns) earlier e f g =
     Both : Verdict → Type 0
     Both v = (v ≡ Verdict.Passes → AllFine cs all (length all)) × ((a : Answer) → v ≡ Verdict.Refused a → BadPlace cs all a)
 
-    go : (b : Bool) → (recordable cs n && not (among n earlier)) ≡ b → ((recordable cs n && not (among n earlier)) ≡ true → Both (recordFrom (length pre + 1) cs (n ∷ earlier) ns)) → Both (orElse (must b (Answer.Record (length pre))) (recordFrom (length pre + 1) cs (n ∷ earlier) ns))
+    go :
+        (b : Bool) → (recordable cs n && not (among n earlier)) ≡ b →
+        ((recordable cs n && not (among n earlier)) ≡ true → Both (recordFrom (length pre + 1) cs (n ∷ earlier) ns)) →
+        Both (orElse (must b (Answer.Record (length pre))) (recordFrom (length pre + 1) cs (n ∷ earlier) ns))
     go true h ih = ih h
     go false h ih = (
       (λ k. let z : _≡_ {A = ℕ} 0 1 = cc in absurd (omega arith)),
       (λ a k. record { at = length pre; first = bad-here cs all pre n ns earlier e f g h; names = same-refusal k }),
     )
       where
-        same-refusal : {a : Answer} → Verdict.Refused (Answer.Record (length pre)) ≡ Verdict.Refused a → a ≡ Answer.Record (length pre)
+        same-refusal :
+            {a : Answer} → Verdict.Refused (Answer.Record (length pre)) ≡ Verdict.Refused a → a ≡ Answer.Record (length pre)
         same-refusal {a} k = cc
 
 module _ (c : Call) where
@@ -299,7 +340,9 @@ module _ (c : Call) where
   record-both = record-from (changesOf c) (c .recordList) [] (c .recordList) [] refl (λ m. refl) λ i h. absurd (omega arith)
 
   -- upstream's valid_indices
-  pub record-passes : recordCheck c ≡ Verdict.Passes → (i : ℕ) → i < length (c .recordList) → (recordable (changesOf c) (getD (c .recordList) i 0) ≡ true) × (Repeated (c .recordList) i → ⊥)
+  pub record-passes :
+      recordCheck c ≡ Verdict.Passes → (i : ℕ) → i < length (c .recordList) →
+      (recordable (changesOf c) (getD (c .recordList) i 0) ≡ true) × (Repeated (c .recordList) i → ⊥)
   unfolding recordCheck
   record-passes h = record-both .0 h
 

@@ -24,7 +24,9 @@ use Rattle.laws.proofs.Remove.{Cleared, Halted, remove-runs}
 use Rattle.laws.proofs.Checks.{Clear, publish-clear, prepare-clear}
 
 -- a stage that leaves the postings as they were, and poisons not, leaves everything as before
-pub shown-same : (head : Head) (table list : List ℕ) (s : Stage) (a : Answer) → wellFormed head table ≡ true → s .answer ≡ a → poisons a ≡ false → s .postings ≡ postings (head .used) table → shown head table list s ≡ asBefore head table list a
+pub shown-same :
+    (head : Head) (table list : List ℕ) (s : Stage) (a : Answer) → wellFormed head table ≡ true → s .answer ≡ a →
+    poisons a ≡ false → s .postings ≡ postings (head .used) table → shown head table list s ≡ asBefore head table list a
 shown-same head table list s a h e n k =
     let w = well-formed-parts head table h in
     let u : length (s .postings) ≡ head .used = ap length k ∙ used-postings head table w in
@@ -64,10 +66,18 @@ module _ (head : Head) (table : List ℕ) (c : Call) where
   sourcesGone = removing (c .strip) (Answer.Accepted (length going)) leaving (length going) (added going start)
 
   pub data Published (o : Outcome) : Type 0 where
-    refused : (a : Answer) → publishChecks head table c ≡ Verdict.Refused a → o ≡ asBefore head table (c .recordList) a → Published o
-    taken : publishChecks head table c ≡ Verdict.Passes → IsReady → Cleared (c .strip) (Answer.Accepted (length going)) leaving (length going) (added going start) sourcesGone → o ≡ accepted → Published o
-    halted : publishChecks head table c ≡ Verdict.Passes → IsReady → Halted (c .strip) leaving (length going) sourcesGone → o ≡ shown head table (written (numbersOf going) (c .recordList)) sourcesGone → Published o
-    stopped : publishChecks head table c ≡ Verdict.Passes → IsStopped → o ≡ shown head table (c .recordList) (prepared head table c) → Published o
+    refused :
+        (a : Answer) → publishChecks head table c ≡ Verdict.Refused a → o ≡ asBefore head table (c .recordList) a → Published o
+    taken :
+        publishChecks head table c ≡ Verdict.Passes → IsReady →
+        Cleared (c .strip) (Answer.Accepted (length going)) leaving (length going) (added going start) sourcesGone →
+        o ≡ accepted → Published o
+    halted :
+        publishChecks head table c ≡ Verdict.Passes → IsReady → Halted (c .strip) leaving (length going) sourcesGone →
+        o ≡ shown head table (written (numbersOf going) (c .recordList)) sourcesGone → Published o
+    stopped :
+        publishChecks head table c ≡ Verdict.Passes → IsStopped → o ≡ shown head table (c .recordList) (prepared head table c) →
+        Published o
 
   -- prepare's part: what it comes to where its checks pass
   pub prepared-runs : Clear head table c → IsReady ⊎ IsStopped
@@ -80,10 +90,15 @@ module _ (head : Head) (table : List ℕ) (c : Call) where
   pub stop-not-accepted : IsStopped → isAccepted (prepared head table c .answer) ≡ false
   stop-not-accepted s = ⊎-elim (λ b. rw (b .answers) (other (s .cause))) (λ b. rw (b .answers)) (s .undo)
     where
-      other : Cause (byteAt (c .strip) (0 + s .at)) (length start + s .at) (capacity table) (numberAt going (s .at)) (s .why) → isAccepted (s .why) ≡ false
+      other :
+          Cause (byteAt (c .strip) (0 + s .at)) (length start + s .at) (capacity table) (numberAt going (s .at)) (s .why) →
+          isAccepted (s .why) ≡ false
       other k = go (s .why) k
         where
-          go : (a : Answer) → Cause (byteAt (c .strip) (0 + s .at)) (length start + s .at) (capacity table) (numberAt going (s .at)) a → isAccepted a ≡ false
+          go :
+              (a : Answer) →
+              Cause (byteAt (c .strip) (0 + s .at)) (length start + s .at) (capacity table) (numberAt going (s .at)) a →
+              isAccepted a ≡ false
           go a (store h) = refl
           go a (full h l) = refl
 
@@ -96,36 +111,52 @@ module _ (head : Head) (table : List ℕ) (c : Call) where
   ready-record : IsReady → recordAfter (prepared head table c) going (c .recordList) ≡ written (numbersOf going) (c .recordList)
   ready-record r = rw (r .answers)
 
-  cleared-accepted : (list : List ℕ) → Cleared (c .strip) (Answer.Accepted (length going)) leaving (length going) (added going start) sourcesGone → shown head table list sourcesGone ≡ shown head table list (record { answer = Answer.Accepted (length going); postings = takenAway leaving (added going start); read = 0 })
+  cleared-accepted :
+      (list : List ℕ) →
+      Cleared (c .strip) (Answer.Accepted (length going)) leaving (length going) (added going start) sourcesGone →
+      shown head table list sourcesGone ≡ shown head table list (record { answer = Answer.Accepted (length going); postings = takenAway leaving (added going start); read = 0 })
   cleared-accepted list k = rw (k .answers, k .leaves)
 
   pub published : Published (publishOf head table c)
   unfolding publishOf
   published = go (publishChecks head table c) refl
     where
-      go : (v : Verdict) → publishChecks head table c ≡ v → Published (decided v (asBefore head table (c .recordList)) (shown head table (recordAfter (prepared head table c) going (c .recordList)) (thenSources (c .strip) leaving (prepared head table c))))
+      go :
+          (v : Verdict) → publishChecks head table c ≡ v →
+          Published (decided v (asBefore head table (c .recordList)) (shown head table (recordAfter (prepared head table c) going (c .recordList)) (thenSources (c .strip) leaving (prepared head table c))))
       go (Verdict.Refused a) e = Published.refused a e refl
       go Verdict.Passes e = ⊎-elim ready stop (prepared-runs (publish-clear head table c e))
         where
-          ready : IsReady → Published (shown head table (recordAfter (prepared head table c) going (c .recordList)) (thenSources (c .strip) leaving (prepared head table c)))
+          ready :
+              IsReady →
+              Published (shown head table (recordAfter (prepared head table c) going (c .recordList)) (thenSources (c .strip) leaving (prepared head table c)))
           ready r =
               rw (ready-sources r, ready-record r)
               (⊎-elim (λ k. Published.taken e r k (cleared-accepted (written (numbersOf going) (c .recordList)) k)) (λ k. Published.halted e r k refl)
               (remove-runs (c .strip) (Answer.Accepted (length going)) leaving (length going) (added going start)))
 
-          stop : IsStopped → Published (shown head table (recordAfter (prepared head table c) going (c .recordList)) (thenSources (c .strip) leaving (prepared head table c)))
+          stop :
+              IsStopped →
+              Published (shown head table (recordAfter (prepared head table c) going (c .recordList)) (thenSources (c .strip) leaving (prepared head table c)))
           stop s = rw (stop-not-accepted s) (Published.stopped e s refl)
 
   pub data Prepares (o : Outcome) : Type 0 where
-    refused : (a : Answer) → prepareChecks head table c ≡ Verdict.Refused a → o ≡ asBefore head table (c .recordList) a → Prepares o
-    ready : prepareChecks head table c ≡ Verdict.Passes → IsReady → o ≡ shown head table (written (numbersOf going) (c .recordList)) (prepared head table c) → Prepares o
-    stopped : prepareChecks head table c ≡ Verdict.Passes → IsStopped → o ≡ shown head table (c .recordList) (prepared head table c) → Prepares o
+    refused :
+        (a : Answer) → prepareChecks head table c ≡ Verdict.Refused a → o ≡ asBefore head table (c .recordList) a → Prepares o
+    ready :
+        prepareChecks head table c ≡ Verdict.Passes → IsReady →
+        o ≡ shown head table (written (numbersOf going) (c .recordList)) (prepared head table c) → Prepares o
+    stopped :
+        prepareChecks head table c ≡ Verdict.Passes → IsStopped → o ≡ shown head table (c .recordList) (prepared head table c) →
+        Prepares o
 
   pub prepares : Prepares (prepareOf head table c)
   unfolding prepareOf
   prepares = go (prepareChecks head table c) refl
     where
-      go : (v : Verdict) → prepareChecks head table c ≡ v → Prepares (decided v (asBefore head table (c .recordList)) (shown head table (recordAfter (prepared head table c) going (c .recordList)) (prepared head table c)))
+      go :
+          (v : Verdict) → prepareChecks head table c ≡ v →
+          Prepares (decided v (asBefore head table (c .recordList)) (shown head table (recordAfter (prepared head table c) going (c .recordList)) (prepared head table c)))
       go (Verdict.Refused a) e = Prepares.refused a e refl
       go Verdict.Passes e =
           ⊎-elim (λ r. Prepares.ready e r (rw (r .answers))) (λ s. Prepares.stopped e s (rw (stop-not-accepted s))) (prepared-runs (prepare-clear head table c e))
@@ -138,15 +169,22 @@ module _ (head : Head) (table : List ℕ) (c : Call) where
   undid = undoing (c .strip) recordedBack Verdict.Passes 0 start
 
   pub data RollsBack (o : Outcome) : Type 0 where
-    refused : (a : Answer) → rollbackChecks head table c ≡ Verdict.Refused a → o ≡ asBefore head table (c .recordList) a → RollsBack o
-    clean : rollbackChecks head table c ≡ Verdict.Passes → UndoClean (c .strip) recordedBack Verdict.Passes 0 start undid → o ≡ shown head table (c .recordList) (rolledBack undid) → RollsBack o
-    failed : rollbackChecks head table c ≡ Verdict.Passes → UndoFailed (c .strip) recordedBack 0 undid → o ≡ shown head table (c .recordList) (rolledBack undid) → RollsBack o
+    refused :
+        (a : Answer) → rollbackChecks head table c ≡ Verdict.Refused a → o ≡ asBefore head table (c .recordList) a → RollsBack o
+    clean :
+        rollbackChecks head table c ≡ Verdict.Passes → UndoClean (c .strip) recordedBack Verdict.Passes 0 start undid →
+        o ≡ shown head table (c .recordList) (rolledBack undid) → RollsBack o
+    failed :
+        rollbackChecks head table c ≡ Verdict.Passes → UndoFailed (c .strip) recordedBack 0 undid →
+        o ≡ shown head table (c .recordList) (rolledBack undid) → RollsBack o
 
   pub rolls-back : RollsBack (rollbackOf head table c)
   unfolding rollbackOf
   rolls-back = go (rollbackChecks head table c) refl
     where
-      go : (v : Verdict) → rollbackChecks head table c ≡ v → RollsBack (decided v (asBefore head table (c .recordList)) (shown head table (c .recordList) (rolledBack undid)))
+      go :
+          (v : Verdict) → rollbackChecks head table c ≡ v →
+          RollsBack (decided v (asBefore head table (c .recordList)) (shown head table (c .recordList) (rolledBack undid)))
       go (Verdict.Refused a) e = RollsBack.refused a e refl
       go Verdict.Passes e =
           ⊎-elim (λ k. RollsBack.clean e k refl) (λ k. RollsBack.failed e k refl) (undo-runs (c .strip) recordedBack Verdict.Passes 0 start)
@@ -156,15 +194,22 @@ module _ (head : Head) (table : List ℕ) (c : Call) where
   removedAlone = removing (c .strip) (Answer.Accepted 0) leaving 0 start
 
   pub data Removes (o : Outcome) : Type 0 where
-    refused : (a : Answer) → removalChecks head table c ≡ Verdict.Refused a → o ≡ asBefore head table (c .recordList) a → Removes o
-    cleared : removalChecks head table c ≡ Verdict.Passes → Cleared (c .strip) (Answer.Accepted 0) leaving 0 start removedAlone → o ≡ shown head table (c .recordList) removedAlone → Removes o
-    halted : removalChecks head table c ≡ Verdict.Passes → Halted (c .strip) leaving 0 removedAlone → o ≡ shown head table (c .recordList) removedAlone → Removes o
+    refused :
+        (a : Answer) → removalChecks head table c ≡ Verdict.Refused a → o ≡ asBefore head table (c .recordList) a → Removes o
+    cleared :
+        removalChecks head table c ≡ Verdict.Passes → Cleared (c .strip) (Answer.Accepted 0) leaving 0 start removedAlone →
+        o ≡ shown head table (c .recordList) removedAlone → Removes o
+    halted :
+        removalChecks head table c ≡ Verdict.Passes → Halted (c .strip) leaving 0 removedAlone →
+        o ≡ shown head table (c .recordList) removedAlone → Removes o
 
   pub removes : Removes (removalOf head table c)
   unfolding removalOf
   removes = go (removalChecks head table c) refl
     where
-      go : (v : Verdict) → removalChecks head table c ≡ v → Removes (decided v (asBefore head table (c .recordList)) (shown head table (c .recordList) removedAlone))
+      go :
+          (v : Verdict) → removalChecks head table c ≡ v →
+          Removes (decided v (asBefore head table (c .recordList)) (shown head table (c .recordList) removedAlone))
       go (Verdict.Refused a) e = Removes.refused a e refl
       go Verdict.Passes e =
           ⊎-elim (λ k. Removes.cleared e k refl) (λ k. Removes.halted e k refl) (remove-runs (c .strip) (Answer.Accepted 0) leaving 0 start)

@@ -66,7 +66,9 @@ module _ (capacity : ℕ) (strip : List ℕ) (base : List Posting) where
   Runs ds done read ps s =
       Ready capacity strip ds done read ps s ⊎ Stopped capacity strip base ds (length done) read (length ps) s
 
-  ready-none : (done : List Numbered) (read : ℕ) (ps : List Posting) → length ps ≤ capacity → Ready capacity strip [] done read ps (preparing capacity strip [] done read ps)
+  ready-none :
+      (done : List Numbered) (read : ℕ) (ps : List Posting) → length ps ≤ capacity →
+      Ready capacity strip [] done read ps (preparing capacity strip [] done read ps)
   unfolding preparing added
   ready-none done read ps h =
       record {
@@ -77,7 +79,10 @@ module _ (capacity : ℕ) (strip : List ℕ) (base : List Posting) where
         reads = omega arith;
       }
 
-  ready-cons : (d : Numbered) (ds done : List Numbered) (read : ℕ) (ps : List Posting) (s : Stage) → byteAt strip read ≡ 0 → present (d .posting) ps ≡ false → Ready capacity strip ds (d ∷ done) (read + 1) (inserted (d .posting) ps) s → Ready capacity strip (d ∷ ds) done read ps s
+  ready-cons :
+      (d : Numbered) (ds done : List Numbered) (read : ℕ) (ps : List Posting) (s : Stage) → byteAt strip read ≡ 0 →
+      present (d .posting) ps ≡ false → Ready capacity strip ds (d ∷ done) (read + 1) (inserted (d .posting) ps) s →
+      Ready capacity strip (d ∷ ds) done read ps s
   unfolding added
   ready-cons d ds done read ps s h k r =
       let e : suc (length done) + length ds ≡ length done + suc (length ds) = omega arith in
@@ -89,7 +94,11 @@ module _ (capacity : ℕ) (strip : List ℕ) (base : List Posting) where
         reads = let l = r .reads in omega arith;
       }
 
-  stopped-cons : (d : Numbered) (ds done : List Numbered) (read : ℕ) (ps : List Posting) (s : Stage) → byteAt strip read ≡ 0 → present (d .posting) ps ≡ false → Stopped capacity strip base ds (suc (length done)) (read + 1) (length (inserted (d .posting) ps)) s → Stopped capacity strip base (d ∷ ds) (length done) read (length ps) s
+  stopped-cons :
+      (d : Numbered) (ds done : List Numbered) (read : ℕ) (ps : List Posting) (s : Stage) → byteAt strip read ≡ 0 →
+      present (d .posting) ps ≡ false →
+      Stopped capacity strip base ds (suc (length done)) (read + 1) (length (inserted (d .posting) ps)) s →
+      Stopped capacity strip base (d ∷ ds) (length done) read (length ps) s
   stopped-cons d ds done read ps s h k r =
       let l = length-inserted (d .posting) ps k in
       let e : read + 1 + r .at ≡ read + suc (r .at) = omega arith in
@@ -106,7 +115,10 @@ module _ (capacity : ℕ) (strip : List ℕ) (base : List Posting) where
         undo = rw (f, n) at (r .undo);
       }
 
-  stopped-here : (why : Answer) (d : Numbered) (ds done : List Numbered) (read : ℕ) (ps : List Posting) → length ps ≤ capacity → Put base done ps → Cause (byteAt strip read) (length ps) capacity (d .number) why → Stopped capacity strip base (d ∷ ds) (length done) read (length ps) (notInserted why (d .number) (undoing strip done Verdict.Passes (read + 1) ps))
+  stopped-here :
+      (why : Answer) (d : Numbered) (ds done : List Numbered) (read : ℕ) (ps : List Posting) → length ps ≤ capacity →
+      Put base done ps → Cause (byteAt strip read) (length ps) capacity (d .number) why →
+      Stopped capacity strip base (d ∷ ds) (length done) read (length ps) (notInserted why (d .number) (undoing strip done Verdict.Passes (read + 1) ps))
   stopped-here why d ds done read ps h w c =
       let e : read + 0 ≡ read = omega arith in
       let u : length ps + 0 ≡ length ps = omega arith in
@@ -121,7 +133,9 @@ module _ (capacity : ℕ) (strip : List ℕ) (base : List Posting) where
         undo = rw (e, n) (⊎-elim (λ k. inl (back k)) (λ k. inr (left k)) (undo-runs strip done Verdict.Passes (read + 1) ps));
       }
     where
-      back : UndoClean strip done Verdict.Passes (read + 1) ps (undoing strip done Verdict.Passes (read + 1) ps) → TakenBack strip (read + 1) (read + 1 + length done) base why (notInserted why (d .number) (undoing strip done Verdict.Passes (read + 1) ps))
+      back :
+          UndoClean strip done Verdict.Passes (read + 1) ps (undoing strip done Verdict.Passes (read + 1) ps) →
+          TakenBack strip (read + 1) (read + 1 + length done) base why (notInserted why (d .number) (undoing strip done Verdict.Passes (read + 1) ps))
       back k =
           record {
             quiet = k .quiet;
@@ -129,7 +143,9 @@ module _ (capacity : ℕ) (strip : List ℕ) (base : List Posting) where
             leaves = k .leaves ∙ put-back base done ps w;
           }
 
-      left : UndoFailed strip done (read + 1) (undoing strip done Verdict.Passes (read + 1) ps) → LeftBehind strip (read + 1) (read + 1 + length done) (d .number) base (notInserted why (d .number) (undoing strip done Verdict.Passes (read + 1) ps))
+      left :
+          UndoFailed strip done (read + 1) (undoing strip done Verdict.Passes (read + 1) ps) →
+          LeftBehind strip (read + 1) (read + 1 + length done) (d .number) base (notInserted why (d .number) (undoing strip done Verdict.Passes (read + 1) ps))
       left k =
           record {
             noisy = record { place = read + 1 + k .at; after = omega arith; below = let t = k .there in omega arith; fault = k .fault };
@@ -137,12 +153,18 @@ module _ (capacity : ℕ) (strip : List ℕ) (base : List Posting) where
             keeps = λ p m. undo-removes strip done Verdict.Passes (read + 1) ps .kept p (put-other base done ps w p m .0) (put-other base done ps w p m .1);
           }
 
-  pub prepare-runs : (ds done : List Numbered) (read : ℕ) (ps : List Posting) → Fresh ds ps → Put base done ps → length ps ≤ capacity → Runs ds done read ps (preparing capacity strip ds done read ps)
+  pub prepare-runs :
+      (ds done : List Numbered) (read : ℕ) (ps : List Posting) → Fresh ds ps → Put base done ps → length ps ≤ capacity →
+      Runs ds done read ps (preparing capacity strip ds done read ps)
   prepare-runs [] done read ps f w h = inl (ready-none done read ps h)
   prepare-runs (d ∷ ds) done read ps f w h =
       go (byte-is (byteAt strip read)) (either (ltb (length ps) capacity)) (prepare-runs ds (d ∷ done) (read + 1) (inserted (d .posting) ps) (f .1) (ps, refl, f .0, w))
     where
-      go : (byteAt strip read ≡ 0) ⊎ (byteAt strip read ≡ 0 → ⊥) → (ltb (length ps) capacity ≡ true) ⊎ (ltb (length ps) capacity ≡ false) → (length (inserted (d .posting) ps) ≤ capacity → Runs ds (d ∷ done) (read + 1) (inserted (d .posting) ps) (preparing capacity strip ds (d ∷ done) (read + 1) (inserted (d .posting) ps))) → Runs (d ∷ ds) done read ps (preparing capacity strip (d ∷ ds) done read ps)
+      go :
+          (byteAt strip read ≡ 0) ⊎ (byteAt strip read ≡ 0 → ⊥) →
+          (ltb (length ps) capacity ≡ true) ⊎ (ltb (length ps) capacity ≡ false) →
+          (length (inserted (d .posting) ps) ≤ capacity → Runs ds (d ∷ done) (read + 1) (inserted (d .posting) ps) (preparing capacity strip ds (d ∷ done) (read + 1) (inserted (d .posting) ps))) →
+          Runs (d ∷ ds) done read ps (preparing capacity strip (d ∷ ds) done read ps)
       go (inl b) (inl l) ih =
           let k = ltb-true (length ps) capacity l in
           let n = length-inserted (d .posting) ps (f .0) in
@@ -158,10 +180,17 @@ module _ (capacity : ℕ) (strip : List ℕ) (base : List Posting) where
           (inr (stopped-here (Answer.Store (d .number)) d ds done read ps h w (store b)))
 
 -- what holds after the next insertion, and after any undo, holds of prepare
-prepare-step : (P : Stage → Type 0) (capacity : ℕ) (strip : List ℕ) (d : Numbered) (ds done : List Numbered) (read : ℕ) (ps : List Posting) → (length ps < capacity → P (preparing capacity strip ds (d ∷ done) (read + 1) (inserted (d .posting) ps))) → ((why : Answer) → P (notInserted why (d .number) (undoing strip done Verdict.Passes (read + 1) ps))) → P (preparing capacity strip (d ∷ ds) done read ps)
+prepare-step :
+    (P : Stage → Type 0) (capacity : ℕ) (strip : List ℕ) (d : Numbered) (ds done : List Numbered) (read : ℕ) (ps : List Posting) →
+    (length ps < capacity → P (preparing capacity strip ds (d ∷ done) (read + 1) (inserted (d .posting) ps))) →
+    ((why : Answer) → P (notInserted why (d .number) (undoing strip done Verdict.Passes (read + 1) ps))) →
+    P (preparing capacity strip (d ∷ ds) done read ps)
 prepare-step P capacity strip d ds done read ps next back = go (byte-is (byteAt strip read)) (either (ltb (length ps) capacity))
   where
-    go : (byteAt strip read ≡ 0) ⊎ (byteAt strip read ≡ 0 → ⊥) → (ltb (length ps) capacity ≡ true) ⊎ (ltb (length ps) capacity ≡ false) → P (preparing capacity strip (d ∷ ds) done read ps)
+    go :
+        (byteAt strip read ≡ 0) ⊎ (byteAt strip read ≡ 0 → ⊥) →
+        (ltb (length ps) capacity ≡ true) ⊎ (ltb (length ps) capacity ≡ false) →
+        P (preparing capacity strip (d ∷ ds) done read ps)
     go (inl b) (inl l) =
         let k = ltb-true (length ps) capacity l in
         rw (preparing-clear strip d ds read ps capacity done b k) (next k)
@@ -173,7 +202,9 @@ either-left : (a b : Bool) → a ≡ true → (a || b) ≡ true
 either-left a b h = rw h
 
 -- whatever the strip, nothing comes in but destinations
-pub prepare-inside : (capacity : ℕ) (strip : List ℕ) (ds done : List Numbered) (read : ℕ) (ps : List Posting) (p : Posting) → present p (preparing capacity strip ds done read ps .postings) ≡ true → (present p ps || present p (postingsOf ds)) ≡ true
+pub prepare-inside :
+    (capacity : ℕ) (strip : List ℕ) (ds done : List Numbered) (read : ℕ) (ps : List Posting) (p : Posting) →
+    present p (preparing capacity strip ds done read ps .postings) ≡ true → (present p ps || present p (postingsOf ds)) ≡ true
 unfolding preparing present
 prepare-inside capacity strip [] done read ps p h = either-left (present p ps) false h
 prepare-inside capacity strip (d ∷ ds) done read ps p h =
@@ -187,7 +218,10 @@ prepare-inside capacity strip (d ∷ ds) done read ps p h =
     h
 
 -- and sound postings stay sound
-pub prepare-sound : (n capacity : ℕ) (strip : List ℕ) (ds done : List Numbered) (read : ℕ) (ps : List Posting) → every (within n) (postingsOf ds) ≡ true → Sound n capacity ps → Sound n capacity (preparing capacity strip ds done read ps .postings)
+pub prepare-sound :
+    (n capacity : ℕ) (strip : List ℕ) (ds done : List Numbered) (read : ℕ) (ps : List Posting) →
+    every (within n) (postingsOf ds) ≡ true → Sound n capacity ps →
+    Sound n capacity (preparing capacity strip ds done read ps .postings)
 unfolding preparing every
 prepare-sound n capacity strip [] done read ps h s = s
 prepare-sound n capacity strip (d ∷ ds) done read ps h s =

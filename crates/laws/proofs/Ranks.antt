@@ -66,7 +66,9 @@ ranked-turned a b next = go (tri a b)
     go (equal e) = rw (ranked-equal a b next e, ranked-equal b a (turned next) (sym e))
     go (more m) = rw (ranked-more a b next m, ranked-less b a (turned next) m)
 
-pub ranked-before : (a b c : ℕ) (m n k : Order) → ranked a b m ≡ Order.Before → ranked b c n ≡ Order.Before → (m ≡ Order.Before → n ≡ Order.Before → k ≡ Order.Before) → ranked a c k ≡ Order.Before
+pub ranked-before :
+    (a b c : ℕ) (m n k : Order) → ranked a b m ≡ Order.Before → ranked b c n ≡ Order.Before →
+    (m ≡ Order.Before → n ≡ Order.Before → k ≡ Order.Before) → ranked a c k ≡ Order.Before
 ranked-before a b c m n k h j f = go (tri a b) (tri b c)
   where
     go : Tri a b → Tri b c → ranked a c k ≡ Order.Before

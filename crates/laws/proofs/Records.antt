@@ -41,12 +41,16 @@ module _ (all : List Change) (i : ℕ) (c : Change) (cs : List Change) (b : Behi
       }
 
 -- what the record names are the destinations themselves, in the same order
-recorded-from : (all : List Change) (i : ℕ) (cs : List Change) → Behind all i cs → recorded all (numbersOf (destinationsFrom i cs)) ≡ destinationsFrom i cs
+recorded-from :
+    (all : List Change) (i : ℕ) (cs : List Change) → Behind all i cs →
+    recorded all (numbersOf (destinationsFrom i cs)) ≡ destinationsFrom i cs
 unfolding recorded destinationsFrom
 recorded-from all i [] b = refl
 recorded-from all i (c ∷ cs) b = go (destinationOf c) refl (recorded-from all (i + 1) cs (behind-rest all i c cs b))
   where
-    go : (k : Key) → destinationOf c ≡ k → recorded all (numbersOf (destinationsFrom (i + 1) cs)) ≡ destinationsFrom (i + 1) cs → recorded all (numbersOf (named i c k (destinationsFrom (i + 1) cs))) ≡ named i c k (destinationsFrom (i + 1) cs)
+    go :
+        (k : Key) → destinationOf c ≡ k → recorded all (numbersOf (destinationsFrom (i + 1) cs)) ≡ destinationsFrom (i + 1) cs →
+        recorded all (numbersOf (named i c k (destinationsFrom (i + 1) cs))) ≡ named i c k (destinationsFrom (i + 1) cs)
     go Key.Missing e ih = ih
     go (Key.Named key) e ih =
         ap (λ (x : Change). named i x (destinationOf x) (recorded all (numbersOf (destinationsFrom (i + 1) cs)))) (behind-here all i c cs b)
@@ -68,7 +72,9 @@ unfolding destinationsFrom rising
 rising-from i [] = refl
 rising-from i (c ∷ cs) = go (destinationOf c) (rising-from (i + 1) cs)
   where
-    go : (k : Key) → rising (i + 1) (numbersOf (destinationsFrom (i + 1) cs)) ≡ true → rising i (numbersOf (named i c k (destinationsFrom (i + 1) cs))) ≡ true
+    go :
+        (k : Key) → rising (i + 1) (numbersOf (destinationsFrom (i + 1) cs)) ≡ true →
+        rising i (numbersOf (named i c k (destinationsFrom (i + 1) cs))) ≡ true
     go Key.Missing ih = rising-later i (i + 1) (numbersOf (destinationsFrom (i + 1) cs)) (omega arith) ih
     go (Key.Named key) ih =
         both (leb i i) (rising (i + 1) (numbersOf (destinationsFrom (i + 1) cs))) (le-leb i i (omega arith)) ih
@@ -120,7 +126,9 @@ among-from i (c ∷ cs) zero = go (destinationOf c) ∙ sym (recordable-first c 
     go (Key.Named key) = rw (eq-eqb (i + 0) i (omega arith))
 among-from i (c ∷ cs) (suc j) = go (destinationOf c) (among-from (i + 1) cs j) ∙ sym (recordable-next c cs j)
   where
-    go : (k : Key) → among (i + 1 + j) (numbersOf (destinationsFrom (i + 1) cs)) ≡ recordable cs j → among (i + suc j) (numbersOf (named i c k (destinationsFrom (i + 1) cs))) ≡ recordable cs j
+    go :
+        (k : Key) → among (i + 1 + j) (numbersOf (destinationsFrom (i + 1) cs)) ≡ recordable cs j →
+        among (i + suc j) (numbersOf (named i c k (destinationsFrom (i + 1) cs))) ≡ recordable cs j
     go Key.Missing ih = let e : i + suc j ≡ i + 1 + j = omega arith in rw e ih
     go (Key.Named key) ih =
         let e : i + suc j ≡ i + 1 + j = omega arith in
@@ -131,7 +139,10 @@ pub among-numbers : (cs : List Change) (j : ℕ) → among j (numbersOf (destina
 among-numbers cs j = ap (λ n. among n (numbersOf (destinations cs))) (sym (zero-add j)) ∙ among-from 0 cs j
 
 -- and rollback takes it as it stands
-pub recordable-numbers : (cs : List Change) (ns : List ℕ) → ((n : ℕ) → among n ns ≡ true → recordable cs n ≡ true) → (place low : ℕ) (earlier : List ℕ) → ((n : ℕ) → low ≤ n → among n earlier ≡ false) → rising low ns ≡ true → recordFrom place cs earlier ns ≡ Verdict.Passes
+pub recordable-numbers :
+    (cs : List Change) (ns : List ℕ) → ((n : ℕ) → among n ns ≡ true → recordable cs n ≡ true) →
+    (place low : ℕ) (earlier : List ℕ) → ((n : ℕ) → low ≤ n → among n earlier ≡ false) → rising low ns ≡ true →
+    recordFrom place cs earlier ns ≡ Verdict.Passes
 unfolding recordFrom among rising
 recordable-numbers cs [] f place low earlier g r = refl
 recordable-numbers cs (n ∷ ns) f place low earlier g r =
@@ -147,7 +158,9 @@ record-taken cs =
     recordable-numbers cs (numbersOf (destinations cs)) (λ n h. sym (among-numbers cs n) ∙ h) 0 0 [] (λ n h. refl) (rising-numbers cs)
 
 -- undone from its end, the record takes back all that was added
-put-added : (base : List Posting) (ds done : List Numbered) (ps : List Posting) → Put base done ps → Fresh ds ps → Put base (reverseAux ds done) (added ds ps)
+put-added :
+    (base : List Posting) (ds done : List Numbered) (ps : List Posting) → Put base done ps → Fresh ds ps →
+    Put base (reverseAux ds done) (added ds ps)
 unfolding added
 put-added base [] done ps w f = w
 put-added base (d ∷ ds) done ps w f = put-added base ds (d ∷ done) (inserted (d .posting) ps) (ps, refl, f .0, w) (f .1)
@@ -156,7 +169,9 @@ pub added-back : (ds : List Numbered) (ps : List Posting) → Fresh ds ps → ta
 added-back ds ps f = put-back ps (reverse ds) (added ds ps) (put-added ps ds [] ps refl f)
 
 -- a list and its reverse hold the same
-present-reverse-onto : (p : Posting) (ds done : List Numbered) → present p (postingsOf (reverseAux ds done)) ≡ (present p (postingsOf ds) || present p (postingsOf done))
+present-reverse-onto :
+    (p : Posting) (ds done : List Numbered) →
+    present p (postingsOf (reverseAux ds done)) ≡ (present p (postingsOf ds) || present p (postingsOf done))
 unfolding present
 present-reverse-onto p [] done = refl
 present-reverse-onto p (d ∷ ds) done =

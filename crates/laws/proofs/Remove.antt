@@ -34,7 +34,9 @@ module _ (strip : List ℕ) (clear : Answer) where
   unfolding removing takenAway
   cleared-none read ps = record { quiet = quiet-none strip read (read + 0) (omega arith); answers = refl; leaves = refl }
 
-  cleared-cons : (d : Numbered) (ds : List Numbered) (read : ℕ) (ps : List Posting) (s : Stage) → byteAt strip read ≡ 0 → Cleared strip clear ds (read + 1) (removed (d .posting) ps) s → Cleared strip clear (d ∷ ds) read ps s
+  cleared-cons :
+      (d : Numbered) (ds : List Numbered) (read : ℕ) (ps : List Posting) (s : Stage) → byteAt strip read ≡ 0 →
+      Cleared strip clear ds (read + 1) (removed (d .posting) ps) s → Cleared strip clear (d ∷ ds) read ps s
   unfolding takenAway
   cleared-cons d ds read ps s h c =
       record {
@@ -43,7 +45,9 @@ module _ (strip : List ℕ) (clear : Answer) where
         leaves = c .leaves;
       }
 
-  halted-cons : (d : Numbered) (ds : List Numbered) (read : ℕ) (s : Stage) → byteAt strip read ≡ 0 → Halted strip ds (read + 1) s → Halted strip (d ∷ ds) read s
+  halted-cons :
+      (d : Numbered) (ds : List Numbered) (read : ℕ) (s : Stage) → byteAt strip read ≡ 0 → Halted strip ds (read + 1) s →
+      Halted strip (d ∷ ds) read s
   halted-cons d ds read s h c =
       let e : read + 1 + c .at ≡ read + suc (c .at) = omega arith in
       record {
@@ -54,23 +58,32 @@ module _ (strip : List ℕ) (clear : Answer) where
         answers = c .answers;
       }
 
-  halted-here : (d : Numbered) (ds : List Numbered) (read : ℕ) (l : List Posting) → (byteAt strip read ≡ 0 → ⊥) → Halted strip (d ∷ ds) read (record { answer = Answer.Source (d .number); postings = l; read = read + 1 })
+  halted-here :
+      (d : Numbered) (ds : List Numbered) (read : ℕ) (l : List Posting) → (byteAt strip read ≡ 0 → ⊥) →
+      Halted strip (d ∷ ds) read (record { answer = Answer.Source (d .number); postings = l; read = read + 1 })
   halted-here d ds read l h =
       let e : read + 0 ≡ read = omega arith in
       record { at = 0; there = omega arith; quiet = quiet-none strip read (read + 0) (omega arith); fault = rw e h; answers = refl }
 
-  pub remove-runs : (items : List Numbered) (read : ℕ) (ps : List Posting) → Cleared strip clear items read ps (removing strip clear items read ps) ⊎ Halted strip items read (removing strip clear items read ps)
+  pub remove-runs :
+      (items : List Numbered) (read : ℕ) (ps : List Posting) →
+      Cleared strip clear items read ps (removing strip clear items read ps) ⊎ Halted strip items read (removing strip clear items read ps)
   remove-runs [] read ps = inl (cleared-none read ps)
   remove-runs (d ∷ ds) read ps = go (byte-is (byteAt strip read)) (remove-runs ds (read + 1) (removed (d .posting) ps))
     where
-      go : (byteAt strip read ≡ 0) ⊎ (byteAt strip read ≡ 0 → ⊥) → Cleared strip clear ds (read + 1) (removed (d .posting) ps) (removing strip clear ds (read + 1) (removed (d .posting) ps)) ⊎ Halted strip ds (read + 1) (removing strip clear ds (read + 1) (removed (d .posting) ps)) → Cleared strip clear (d ∷ ds) read ps (removing strip clear (d ∷ ds) read ps) ⊎ Halted strip (d ∷ ds) read (removing strip clear (d ∷ ds) read ps)
+      go :
+          (byteAt strip read ≡ 0) ⊎ (byteAt strip read ≡ 0 → ⊥) →
+          Cleared strip clear ds (read + 1) (removed (d .posting) ps) (removing strip clear ds (read + 1) (removed (d .posting) ps)) ⊎ Halted strip ds (read + 1) (removing strip clear ds (read + 1) (removed (d .posting) ps)) →
+          Cleared strip clear (d ∷ ds) read ps (removing strip clear (d ∷ ds) read ps) ⊎ Halted strip (d ∷ ds) read (removing strip clear (d ∷ ds) read ps)
       go (inl h) ih =
           rw (removing-clear strip d ds read ps clear h)
           (⊎-elim (λ c. inl (cleared-cons d ds read ps _ h c)) (λ c. inr (halted-cons d ds read _ h c)) ih)
       go (inr h) ih = rw (removing-fails strip d ds read ps clear h) (inr (halted-here d ds read _ h))
 
   -- whatever the strip, it takes away nothing but its own postings, and sound postings stay sound
-  pub remove-removes : (items : List Numbered) (read : ℕ) (ps : List Posting) → RemovedOnly ps (removing strip clear items read ps .postings) (postingsOf items)
+  pub remove-removes :
+      (items : List Numbered) (read : ℕ) (ps : List Posting) →
+      RemovedOnly ps (removing strip clear items read ps .postings) (postingsOf items)
   unfolding removing
   remove-removes [] read ps = removed-only-same ps []
   remove-removes (d ∷ ds) read ps =
@@ -79,7 +92,9 @@ module _ (strip : List ℕ) (clear : Answer) where
       (λ e. removed-only-then (byteAt strip read) (d .posting) ps _ (postingsOf ds)
       (remove-removes ds (read + 1) (removal (byteAt strip read) (d .posting) ps .postings)))
 
-  pub remove-sound : (n size : ℕ) (items : List Numbered) (read : ℕ) (ps : List Posting) → Sound n size ps → Sound n size (removing strip clear items read ps .postings)
+  pub remove-sound :
+      (n size : ℕ) (items : List Numbered) (read : ℕ) (ps : List Posting) → Sound n size ps →
+      Sound n size (removing strip clear items read ps .postings)
   unfolding removing
   remove-sound n size [] read ps s = s
   remove-sound n size (d ∷ ds) read ps s =

@@ -15,7 +15,9 @@ or-turn true false c = refl
 or-turn false true c = refl
 or-turn false false c = refl
 
-pub present-added : (p : Posting) (ds : List Numbered) (ps : List Posting) → present p (added ds ps) ≡ (present p ps || present p (postingsOf ds))
+pub present-added :
+    (p : Posting) (ds : List Numbered) (ps : List Posting) →
+    present p (added ds ps) ≡ (present p ps || present p (postingsOf ds))
 unfolding added present
 present-added p [] ps = sym (or-false (present p ps))
 present-added p (d ∷ ds) ps =
@@ -27,7 +29,9 @@ and-both true true c = refl
 and-both true false c = refl
 and-both false b c = refl
 
-pub present-taken-away : (p : Posting) (ss : List Numbered) (ps : List Posting) → present p (takenAway ss ps) ≡ (present p ps && not (present p (postingsOf ss)))
+pub present-taken-away :
+    (p : Posting) (ss : List Numbered) (ps : List Posting) →
+    present p (takenAway ss ps) ≡ (present p ps && not (present p (postingsOf ss)))
 unfolding takenAway present
 present-taken-away p [] ps = sym (and-true (present p ps))
 present-taken-away p (s ∷ ss) ps =
@@ -45,12 +49,17 @@ ascending-taken-away [] ps h = h
 ascending-taken-away (s ∷ ss) ps h = ascending-taken-away ss (removed (s .posting) ps) (ascending-removed (s .posting) ps h)
 
 -- (postings and destinations) less sources, as a set
-pub present-said : (p : Posting) (ds ss : List Numbered) (ps : List Posting) → present p (takenAway ss (added ds ps)) ≡ ((present p ps || present p (postingsOf ds)) && not (present p (postingsOf ss)))
+pub present-said :
+    (p : Posting) (ds ss : List Numbered) (ps : List Posting) →
+    present p (takenAway ss (added ds ps)) ≡ ((present p ps || present p (postingsOf ds)) && not (present p (postingsOf ss)))
 present-said p ds ss ps =
     present-taken-away p ss (added ds ps) ∙ ap (λ b. b && not (present p (postingsOf ss))) (present-added p ds ps)
 
 -- and as the one ascending list of those postings
-pub said-list : (ds ss : List Numbered) (ps l : List Posting) → ascending ps ≡ true → ascending l ≡ true → ((p : Posting) → present p l ≡ ((present p ps || present p (postingsOf ds)) && not (present p (postingsOf ss)))) → takenAway ss (added ds ps) ≡ l
+pub said-list :
+    (ds ss : List Numbered) (ps l : List Posting) → ascending ps ≡ true → ascending l ≡ true →
+    ((p : Posting) → present p l ≡ ((present p ps || present p (postingsOf ds)) && not (present p (postingsOf ss)))) →
+    takenAway ss (added ds ps) ≡ l
 said-list ds ss ps l h k f =
     ascending-same (takenAway ss (added ds ps)) l (λ p. present-said p ds ss ps ∙ sym (f p))
     (ascending-taken-away ss (added ds ps) (ascending-added ds ps h))

@@ -31,12 +31,15 @@ unfolding chain ascending
 ascending-rest p [] h = refl
 ascending-rest p (x ∷ xs) h = chain-rest p x xs h
 
-chain-inserted : (q p : Posting) (l : List Posting) → compared q p ≡ Order.Before → chain q l ≡ true → chain q (inserted p l) ≡ true
+chain-inserted :
+    (q p : Posting) (l : List Posting) → compared q p ≡ Order.Before → chain q l ≡ true → chain q (inserted p l) ≡ true
 unfolding inserted chain
 chain-inserted q p [] e h = chain-cons q p [] e h
 chain-inserted q p (x ∷ xs) e h = go (compared p x) refl (λ k. chain-inserted x p xs k (chain-rest q x xs h))
   where
-    go : (o : Order) → compared p x ≡ o → (compared x p ≡ Order.Before → chain x (inserted p xs) ≡ true) → chain q (placed o p x xs (inserted p xs)) ≡ true
+    go :
+        (o : Order) → compared p x ≡ o → (compared x p ≡ Order.Before → chain x (inserted p xs) ≡ true) →
+        chain q (placed o p x xs (inserted p xs)) ≡ true
     go Order.Before k ih = chain-cons q p (x ∷ xs) e (chain-cons p x xs k (chain-rest q x xs h))
     go Order.Same k ih = h
     go Order.After k ih = chain-cons q x (inserted p xs) (chain-before q x xs h) (ih (after-before p x k))
@@ -67,7 +70,8 @@ ascending-removed p (x ∷ xs) h =
     (λ e. ascending-removed p xs (ascending-rest x xs h))
     (λ e. chain-removed x p xs h)
 
-pub every-inserted : (f : Posting → Bool) (p : Posting) (l : List Posting) → f p ≡ true → every f l ≡ true → every f (inserted p l) ≡ true
+pub every-inserted :
+    (f : Posting → Bool) (p : Posting) (l : List Posting) → f p ≡ true → every f l ≡ true → every f (inserted p l) ≡ true
 unfolding every inserted
 every-inserted f p [] e h = both (f p) true e refl
 every-inserted f p (x ∷ xs) e h = go (compared p x) (every-inserted f p xs e (and-right (f x) (every f xs) h))
@@ -97,7 +101,9 @@ here : (p : Posting) (l : List Posting) → present p (p ∷ l) ≡ true
 unfolding present
 here p l = rw (same-self p)
 
-rest-same : (x : Posting) (xs ys : List Posting) → ((p : Posting) → present p (x ∷ xs) ≡ present p (x ∷ ys)) → chain x xs ≡ true → chain x ys ≡ true → (p : Posting) → present p xs ≡ present p ys
+rest-same :
+    (x : Posting) (xs ys : List Posting) → ((p : Posting) → present p (x ∷ xs) ≡ present p (x ∷ ys)) → chain x xs ≡ true →
+    chain x ys ≡ true → (p : Posting) → present p xs ≡ present p ys
 unfolding present
 rest-same x xs ys f h k p = go (same p x) refl (f p)
   where
@@ -106,14 +112,17 @@ rest-same x xs ys f h k p = go (same p x) refl (f p)
     go false e g = g
 
 -- two ascending lists in which the same postings stand are one list
-pub ascending-same : (a b : List Posting) → ((p : Posting) → present p a ≡ present p b) → ascending a ≡ true → ascending b ≡ true → a ≡ b
+pub ascending-same :
+    (a b : List Posting) → ((p : Posting) → present p a ≡ present p b) → ascending a ≡ true → ascending b ≡ true → a ≡ b
 unfolding present ascending
 ascending-same [] [] f h k = refl
 ascending-same [] (y ∷ ys) f h k = absurd (clash (present y (y ∷ ys)) (here y ys) (sym (f y)))
 ascending-same (x ∷ xs) [] f h k = absurd (clash (present x (x ∷ xs)) (here x xs) (f x))
 ascending-same (x ∷ xs) (y ∷ ys) f h k = go (compared x y) refl (ascending-same xs ys)
   where
-    go : (o : Order) → compared x y ≡ o → (((p : Posting) → present p xs ≡ present p ys) → ascending xs ≡ true → ascending ys ≡ true → xs ≡ ys) → x ∷ xs ≡ y ∷ ys
+    go :
+        (o : Order) → compared x y ≡ o →
+        (((p : Posting) → present p xs ≡ present p ys) → ascending xs ≡ true → ascending ys ≡ true → xs ≡ ys) → x ∷ xs ≡ y ∷ ys
     go Order.Before e ih =
         absurd (clash (present x (y ∷ ys)) (sym (f x) ∙ here x xs) (absent-before x (y ∷ ys) (chain-cons x y ys e k)))
     go Order.Same e ih =

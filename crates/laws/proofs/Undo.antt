@@ -69,7 +69,9 @@ pub record UndoFailed (strip : List ℕ) (items : List Numbered) (read : ℕ) (u
   pub reads : u .read ≡ read + length items
 
 module _ (strip : List ℕ) (d : Numbered) (ds : List Numbered) (read : ℕ) (u : Undone) where
-  clean-cons : (v : Verdict) (ps : List Posting) → byteAt strip read ≡ 0 → UndoClean strip ds v (read + 1) (removed (d .posting) ps) u → UndoClean strip (d ∷ ds) v read ps u
+  clean-cons :
+      (v : Verdict) (ps : List Posting) → byteAt strip read ≡ 0 → UndoClean strip ds v (read + 1) (removed (d .posting) ps) u →
+      UndoClean strip (d ∷ ds) v read ps u
   unfolding takenAway
   clean-cons v ps h c =
       record {
@@ -91,7 +93,9 @@ module _ (strip : List ℕ) (d : Numbered) (ds : List Numbered) (read : ℕ) (u 
         reads = let r = f .reads in omega arith;
       }
 
-  failed-here : (l : List Posting) → (byteAt strip read ≡ 0 → ⊥) → UndoClean strip ds (Verdict.Refused (Answer.Undo (d .number))) (read + 1) l u → UndoFailed strip (d ∷ ds) read u
+  failed-here :
+      (l : List Posting) → (byteAt strip read ≡ 0 → ⊥) →
+      UndoClean strip ds (Verdict.Refused (Answer.Undo (d .number))) (read + 1) l u → UndoFailed strip (d ∷ ds) read u
   failed-here l h c =
       let e : read + 0 ≡ read = omega arith in
       record {
@@ -103,19 +107,25 @@ module _ (strip : List ℕ) (d : Numbered) (ds : List Numbered) (read : ℕ) (u 
         reads = let r = c .reads in omega arith;
       }
 
-undo-none : (strip : List ℕ) (v : Verdict) (read : ℕ) (ps : List Posting) → UndoClean strip [] v read ps (undoing strip [] v read ps)
+undo-none :
+    (strip : List ℕ) (v : Verdict) (read : ℕ) (ps : List Posting) → UndoClean strip [] v read ps (undoing strip [] v read ps)
 unfolding undoing takenAway
 undo-none strip v read ps =
     record { quiet = quiet-none strip read (read + 0) (omega arith); verdict = refl; leaves = refl; reads = omega arith }
 
-pub undo-runs : (strip : List ℕ) (items : List Numbered) (v : Verdict) (read : ℕ) (ps : List Posting) → UndoClean strip items v read ps (undoing strip items v read ps) ⊎ UndoFailed strip items read (undoing strip items v read ps)
+pub undo-runs :
+    (strip : List ℕ) (items : List Numbered) (v : Verdict) (read : ℕ) (ps : List Posting) →
+    UndoClean strip items v read ps (undoing strip items v read ps) ⊎ UndoFailed strip items read (undoing strip items v read ps)
 undo-runs strip [] v read ps = inl (undo-none strip v read ps)
 undo-runs strip (d ∷ ds) v read ps = go (byte-is (byteAt strip read)) (undo-runs strip ds)
   where
     Runs : List Numbered → Verdict → ℕ → List Posting → Undone → Type 0
     Runs items w r l u = UndoClean strip items w r l u ⊎ UndoFailed strip items r u
 
-    go : (byteAt strip read ≡ 0) ⊎ (byteAt strip read ≡ 0 → ⊥) → ((w : Verdict) (r : ℕ) (l : List Posting) → Runs ds w r l (undoing strip ds w r l)) → Runs (d ∷ ds) v read ps (undoing strip (d ∷ ds) v read ps)
+    go :
+        (byteAt strip read ≡ 0) ⊎ (byteAt strip read ≡ 0 → ⊥) →
+        ((w : Verdict) (r : ℕ) (l : List Posting) → Runs ds w r l (undoing strip ds w r l)) →
+        Runs (d ∷ ds) v read ps (undoing strip (d ∷ ds) v read ps)
     go (inl h) ih =
         rw (undoing-clear strip d ds read ps v h)
         (⊎-elim (λ c. inl (clean-cons strip d ds read _ v ps h c)) (λ f. inr (failed-cons strip d ds read _ f))
@@ -126,14 +136,18 @@ undo-runs strip (d ∷ ds) v read ps = go (byte-is (byteAt strip read)) (undo-ru
         (ih (Verdict.Refused (Answer.Undo (d .number))) (read + 1) (removal (byteAt strip read) (d .posting) ps .postings)))
 
 -- whatever the strip, it takes away nothing but its own postings, and sound postings stay sound
-pub undo-removes : (strip : List ℕ) (items : List Numbered) (v : Verdict) (read : ℕ) (ps : List Posting) → RemovedOnly ps (undoing strip items v read ps .postings) (postingsOf items)
+pub undo-removes :
+    (strip : List ℕ) (items : List Numbered) (v : Verdict) (read : ℕ) (ps : List Posting) →
+    RemovedOnly ps (undoing strip items v read ps .postings) (postingsOf items)
 unfolding undoing
 undo-removes strip [] v read ps = removed-only-same ps []
 undo-removes strip (d ∷ ds) v read ps =
     removed-only-then (byteAt strip read) (d .posting) ps _ (postingsOf ds)
     (undo-removes strip ds _ (read + 1) (removal (byteAt strip read) (d .posting) ps .postings))
 
-pub undo-sound : (n size : ℕ) (strip : List ℕ) (items : List Numbered) (v : Verdict) (read : ℕ) (ps : List Posting) → Sound n size ps → Sound n size (undoing strip items v read ps .postings)
+pub undo-sound :
+    (n size : ℕ) (strip : List ℕ) (items : List Numbered) (v : Verdict) (read : ℕ) (ps : List Posting) → Sound n size ps →
+    Sound n size (undoing strip items v read ps .postings)
 unfolding undoing
 undo-sound n size strip [] v read ps s = s
 undo-sound n size strip (d ∷ ds) v read ps s =
@@ -154,7 +168,9 @@ put-back base (d ∷ ds) ps w =
     rw (w .1, removed-inserted (d .posting) (w .0) (w .2)) (put-back base ds (w .0) (w .3))
 
 -- what stood in the list at first was not put in
-pub put-other : (base : List Posting) (done : List Numbered) (ps : List Posting) → Put base done ps → (p : Posting) → present p base ≡ true → (present p ps ≡ true) × (present p (postingsOf done) ≡ false)
+pub put-other :
+    (base : List Posting) (done : List Numbered) (ps : List Posting) → Put base done ps → (p : Posting) → present p base ≡ true →
+    (present p ps ≡ true) × (present p (postingsOf done) ≡ false)
 unfolding present
 put-other base [] ps e p h = (rw e h, refl)
 put-other base (d ∷ ds) ps w p h =
