@@ -12,7 +12,7 @@ use Rattle.rules.specs.declared.Posting.{Posting}
 use Rattle.rules.specs.declared.Head.{Head}
 use Rattle.rules.specs.declared.Answer.{Answer}
 use Rattle.rules.specs.declared.Verdict.{Verdict}
-use Rattle.rules.specs.Postings.{every, counted}
+use Rattle.rules.specs.Postings.{every, present, counted}
 use Rattle.rules.specs.Table.{postings, wellFormed}
 use Rattle.rules.specs.Orders.{properStrip, destinations, sources}
 use Rattle.rules.specs.Answers.{isAccepted, poisons, settled}
@@ -23,9 +23,10 @@ use Rattle.laws.proofs.Tests.{clash, and-left, and-right}
 use Rattle.laws.proofs.Flat.{well-formed-parts, used-postings, laid-out-same, postings-laid-out}
 use Rattle.laws.proofs.Answers.{Kind, kind}
 use Rattle.laws.proofs.Checks.{first-passes, rest-passes, cons-passes}
+use Rattle.laws.proofs.Sets.{present-said}
 use Rattle.laws.proofs.Calls.{publish-as-before, publish-well-formed, publish-stable}
 use Rattle.history.specs.Acceptance.{Acceptable}
-use Rattle.history.specs.History.{Index, published, countedIn, left, after, outcomes, unbroken, accepted, acceptedOutcomes, said, holding, quiet, Empty, Alike, Right, Withheld, Demand}
+use Rattle.history.specs.History.{Index, published, countedIn, left, after, outcomes, unbroken, accepted, acceptedOutcomes, said, saidOf, ownCount, postingsIn, holding, quiet, Empty, Alike, Right, Withheld, Demand}
 use Rattle.history.proofs.Acceptance.{accepted-exactly, acceptable-outcome}
 
 -- well formed and unpoisoned: what every call but 12 and 13 leaves
@@ -37,9 +38,6 @@ pub record Live (x : Index) : Type 0 where
 pub record Spoilt (x : Index) : Type 0 where
   pub formed : wellFormed (x .head) (x .table) ≡ true
   pub flagged : x .head .poisoned ≡ 1
-
-abbrev pub postingsIn : Index → List Posting
-postingsIn x = postings (x .head .used) (x .table)
 
 -- a live index is told by its postings
 live-holding : (x : Index) → Live x → x ≡ holding x (postingsIn x)
@@ -135,6 +133,14 @@ said-after x (c ∷ cs) l h = go (step x c) (said-after (left (published x c)) c
     go (takes a n p) ih = rw n (ih ∙ (holding-next x c _ ∙ ap (λ l. holding x (said (accepted (left (published x c)) cs) l)) (postings-next x c a)))
     go (breaks n p) ih = absurd (clash (poisons (published x c .answer)) p (unbroken-first x c cs h))
 
+-- what calls say, posting by posting
+said-set : (cs : List Call) (ps : List Posting) (p : Posting) → present p (said cs ps) ≡ saidOf cs p (present p ps)
+unfolding said saidOf
+said-set [] ps p = refl
+said-set (c ∷ cs) ps p =
+    said-set cs (takenAway (sources (changesOf c)) (added (destinations (changesOf c)) ps)) p
+    ∙ ap (saidOf cs p) (present-said p (destinations (changesOf c)) (sources (changesOf c)) ps)
+
 -- with an empty strip an accepted call is accepted just so
 strip-passes : (c : Call) → stripCheck (quiet c) ≡ Verdict.Passes
 unfolding stripCheck properStrip every
@@ -189,17 +195,17 @@ replay-outcomes x (c ∷ cs) h = go (step x c) (replay-outcomes (left (published
     go (takes a n p) ih = rw (n, quiet-same x c a) (ap (λ l. published x c ∷ l) ih)
     go (breaks n p) ih = absurd (clash (poisons (published x c .answer)) p (unbroken-first x c cs h))
 
--- a count on a live index is its own number, or 6 for a binding that is not below the count
+-- a count on a live index is its own number
 pub live-count :
-    (x : Index) → Live x → (binding key : ℕ) →
-    countedIn x binding key ≡ cond (ltb binding (x .head .bindings)) (Answer.Accepted (counted binding key (postingsIn x))) (Answer.Guard 0)
+    (x : Index) → Live x → (binding key : ℕ) → countedIn x binding key ≡ ownCount x (postingsIn x) binding key
 unfolding countOf countChecks firstRefusal tableCheck poisonCheck
 live-count x l binding key =
     rw (l .formed, eq-eqb (x .head .poisoned) 0 (l .healthy)) (go (ltb binding (x .head .bindings)))
   where
-    go :
-        (b : Bool) →
-        settled (orElse (must b (Answer.Guard 0)) Verdict.Passes) (Answer.Accepted (counted binding key (postingsIn x))) ≡ cond b (Answer.Accepted (counted binding key (postingsIn x))) (Answer.Guard 0)
+    given : Answer
+    given = Answer.Accepted (counted binding key (postingsIn x))
+
+    go : (b : Bool) → settled (orElse (must b (Answer.Guard 0)) Verdict.Passes) given ≡ cond b given (Answer.Guard 0)
     go true = refl
     go false = refl
 
@@ -317,16 +323,17 @@ module _ (x : Index) (e : Empty x) where
   now : (cs : List Call) → unbroken x cs ≡ true → after x cs ≡ holding x (said (accepted x cs) [])
   now cs h = said-after x cs (empty-live x e) h ∙ ap (λ l. holding x (said (accepted x cs) l)) (empty-postings x e)
 
+  held-now : (cs : List Call) → unbroken x cs ≡ true → postingsIn (after x cs) ≡ said (accepted x cs) []
+  held-now cs h = ap postingsIn (now cs h) ∙ postings-laid-out (length (x .table)) (said (accepted x cs) [])
+
   right-until : (cs : List Call) → unbroken x cs ≡ true → Right x cs
+  unfolding present
   right-until cs h =
       record {
         table = now cs h;
+        set = λ p. ap (present p) (held-now cs h) ∙ said-set (accepted x cs) [] p;
         counts = λ binding key.
-            live-count (after x cs) (live-after x cs (empty-live x e) h) binding key
-            ∙ rw (
-              bindings-after x cs,
-              ap postingsIn (now cs h) ∙ postings-laid-out (length (x .table)) (said (accepted x cs) []),
-            );
+            live-count (after x cs) (live-after x cs (empty-live x e) h) binding key ∙ rw (bindings-after x cs, held-now cs h);
         replay = λ y ey a. rw (empty-one x y e ey a) (replay-after x cs h);
         records = λ y ey a. rw (empty-one x y e ey a) (replay-outcomes x cs h);
       }

@@ -89,8 +89,8 @@ module _ (head : Head) (table : List ℕ) (c : Call) where
   RemovalAnswers a = Answered (removalChecks head table c) (RemovalEnds (c .strip) (sources (changesOf c))) a
 
 -- a posting stands in the table or is a destination, and is no source
-abbrev pub saidOf : Head → List ℕ → Call → Posting → Bool
-saidOf head table c p =
+abbrev pub leavesIn : Head → List ℕ → Call → Posting → Bool
+leavesIn head table c p =
     (present p (postings (head .used) table) || present p (postingsOf (destinations (changesOf c))))
     && not (present p (postingsOf (sources (changesOf c))))
 
@@ -100,7 +100,7 @@ pub record Leaves (head : Head) (table : List ℕ) (c : Call) (o : Outcome) : Ty
   pub bindings : o .head .bindings ≡ head .bindings
   pub poisoned : o .head .poisoned ≡ head .poisoned
   pub recordList : o .recordList ≡ written (numbersOf (destinations (changesOf c))) (c .recordList)
-  pub set : (p : Posting) → present p (postings (o .head .used) (o .table)) ≡ saidOf head table c p
+  pub set : (p : Posting) → present p (postings (o .head .used) (o .table)) ≡ leavesIn head table c p
   pub list :
-      (l : List Posting) → ascending l ≡ true → ((p : Posting) → present p l ≡ saidOf head table c p) →
+      (l : List Posting) → ascending l ≡ true → ((p : Posting) → present p l ≡ leavesIn head table c p) →
       (o .head .used ≡ length l) × (o .table ≡ laidOut (length table) l)

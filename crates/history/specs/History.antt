@@ -3,15 +3,15 @@
 use Prim.Native.Nat.{ℕ}
 use mathlib.Core.Path.{_≡_}
 use mathlib.Core.List.{List, [], _∷_, _++_, map}
-use mathlib.Core.Bool.{Bool, true, false, cond, not, _&&_}
+use mathlib.Core.Bool.{Bool, true, false, cond, not, _&&_, _||_}
 use lib.ListN.{length}
 use lib.Dec.{ltb}
 use Rattle.rules.specs.declared.Posting.{Posting}
 use Rattle.rules.specs.declared.Head.{Head}
 use Rattle.rules.specs.declared.Answer.{Answer}
-use Rattle.rules.specs.Postings.{counted}
-use Rattle.rules.specs.Table.{laidOut, wellFormed}
-use Rattle.rules.specs.Orders.{destinations, sources}
+use Rattle.rules.specs.Postings.{present, counted}
+use Rattle.rules.specs.Table.{postings, laidOut, wellFormed}
+use Rattle.rules.specs.Orders.{destinations, sources, postingsOf}
 use Rattle.rules.specs.Answers.{isAccepted, poisons}
 use Rattle.rules.specs.Checks.{Call, changesOf}
 use Rattle.rules.specs.Calls.{Outcome, asBefore, publishOf, countOf}
@@ -27,6 +27,9 @@ published x c = publishOf (x .head) (x .table) c
 
 abbrev pub countedIn : Index → ℕ → ℕ → Answer
 countedIn x binding key = countOf (x .head) (x .table) binding key
+
+abbrev pub postingsIn : Index → List Posting
+postingsIn x = postings (x .head .used) (x .table)
 
 abbrev pub left : Outcome → Index
 left o = record { head = o .head; table = o .table }
@@ -64,6 +67,18 @@ unfoldable pub said : List Call → List Posting → List Posting
 said [] ps = ps
 said (c ∷ cs) ps = said cs (takenAway (sources (changesOf c)) (added (destinations (changesOf c)) ps))
 
+-- whether a posting is among what calls say, if it was or was not there before: in with a destination, out with a source
+unfoldable pub saidOf : List Call → Posting → Bool → Bool
+saidOf [] p there = there
+saidOf (c ∷ cs) p there =
+    saidOf cs p
+    ((there || present p (postingsOf (destinations (changesOf c)))) && not (present p (postingsOf (sources (changesOf c)))))
+
+-- the count of these postings under a binding and key; 6 where the binding is not below the index's count
+abbrev pub ownCount : Index → List Posting → ℕ → ℕ → Answer
+ownCount x ps binding key =
+    cond (ltb binding (x .head .bindings)) (Answer.Accepted (counted binding key ps)) (Answer.Guard 0)
+
 -- the index of this size and binding count that holds these postings, unpoisoned
 abbrev pub holding : Index → List Posting → Index
 holding x ps =
@@ -91,10 +106,10 @@ pub record Alike (x y : Index) : Type 0 where
 pub record Right (x : Index) (cs : List Call) : Type 0 where
   -- table and head are what the accepted calls alone say, in order
   pub table : after x cs ≡ holding x (said (accepted x cs) [])
-  -- a count answered now is that table's own number (6 where its binding is not below the count)
-  pub counts :
-      (binding key : ℕ) →
-      countedIn (after x cs) binding key ≡ cond (ltb binding (x .head .bindings)) (Answer.Accepted (counted binding key (said (accepted x cs) []))) (Answer.Guard 0)
+  -- and so the postings that stand there
+  pub set : (p : Posting) → present p (postingsIn (after x cs)) ≡ saidOf (accepted x cs) p false
+  -- a count answered now is that table's own number
+  pub counts : (binding key : ℕ) → countedIn (after x cs) binding key ≡ ownCount x (said (accepted x cs) []) binding key
   -- the accepted calls replayed with empty strips, on an empty index of equal size and binding count, give the same table and
   -- head, and the same answers and records on the way, number for number
   pub replay : (y : Index) → Empty y → Alike x y → after y (map quiet (accepted x cs)) ≡ after x cs

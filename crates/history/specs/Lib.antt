@@ -1,3 +1,4 @@
 pub mod Acceptance
 pub mod History
 pub mod Upstream
+pub mod Worked
