@@ -1,13 +1,12 @@
 -- Demand 3. Each publish either leaves the index as it was, or is accepted and leaves what it says, or breaks it; by induction
 -- over the calls that makes the history right until it is withheld.
 use Prim.Native.Nat.{ℕ}
-use native.Mathlib.Omega.{arith}
 use mathlib.Core.Path.{_≡_, refl, sym, ap, _∙_}
 use mathlib.Core.List.{List, [], _∷_, _++_, map}
 use mathlib.Core.Bool.{Bool, true, false, cond, not, _&&_}
 use lib.ListN.{length}
-use lib.Dec.{eqb, ltb}
-use borrow.Author.Tests.{eq-eqb, ne-eqb, not-true}
+use lib.Dec.{ltb}
+use borrow.Author.Tests.{eq-eqb, not-true}
 use Rattle.rules.specs.declared.Posting.{Posting}
 use Rattle.rules.specs.declared.Head.{Head}
 use Rattle.rules.specs.declared.Answer.{Answer}
@@ -17,14 +16,14 @@ use Rattle.rules.specs.Table.{postings, wellFormed}
 use Rattle.rules.specs.Orders.{properStrip, destinations, sources}
 use Rattle.rules.specs.Answers.{isAccepted, poisons, settled}
 use Rattle.rules.specs.Checks.{Call, changesOf, must, orElse, firstRefusal, tableCheck, poisonCheck, listCheck, stripCheck, roomCheck, guardCheck, twiceCheck, presentCheck, overlapCheck, publishChecks, countChecks}
-use Rattle.rules.specs.Calls.{Outcome, asBefore, publishOf, countOf}
+use Rattle.rules.specs.Calls.{Outcome, asBefore, countOf}
 use Rattle.laws.specs.Words.{added, takenAway}
 use Rattle.laws.proofs.Tests.{clash, and-left, and-right}
 use Rattle.laws.proofs.Flat.{well-formed-parts, used-postings, laid-out-same, postings-laid-out}
 use Rattle.laws.proofs.Answers.{Kind, kind}
 use Rattle.laws.proofs.Checks.{first-passes, rest-passes, cons-passes}
 use Rattle.laws.proofs.Sets.{present-said}
-use Rattle.laws.proofs.Calls.{publish-as-before, publish-well-formed, publish-stable}
+use Rattle.laws.proofs.Calls.{publish-as-before, publish-well-formed, publish-stable, publish-poisoned, count-poisoned}
 use Rattle.history.specs.Acceptance.{Acceptable}
 use Rattle.history.specs.History.{Index, published, countedIn, left, after, outcomes, unbroken, accepted, acceptedOutcomes, said, saidOf, ownCount, postingsIn, holding, quiet, Empty, Alike, Right, Withheld, Demand}
 use Rattle.history.proofs.Acceptance.{accepted-exactly, acceptable-outcome}
@@ -210,21 +209,12 @@ live-count x l binding key =
     go false = refl
 
 -- a spoilt index refuses everything with 2 and stays
-flag-set : (x : Index) → Spoilt x → eqb (x .head .poisoned) 0 ≡ false
-flag-set x s = ne-eqb (x .head .poisoned) 0 λ e. let f = s .flagged in omega arith
-
-spoilt-checks : (x : Index) → Spoilt x → (c : Call) → publishChecks (x .head) (x .table) c ≡ Verdict.Refused Answer.Poisoned
-unfolding publishChecks firstRefusal tableCheck poisonCheck
-spoilt-checks x s c = rw (s .formed, flag-set x s)
-
-pub spoilt-publish :
+spoilt-publish :
     (x : Index) → Spoilt x → (c : Call) → published x c ≡ asBefore (x .head) (x .table) (c .recordList) Answer.Poisoned
-unfolding publishOf
-spoilt-publish x s c = rw (spoilt-checks x s c)
+spoilt-publish x s c = publish-poisoned (x .head) (x .table) c (s .formed) (s .flagged)
 
-pub spoilt-count : (x : Index) → Spoilt x → (binding key : ℕ) → countedIn x binding key ≡ Answer.Poisoned
-unfolding countOf countChecks firstRefusal tableCheck poisonCheck
-spoilt-count x s binding key = rw (s .formed, flag-set x s)
+spoilt-count : (x : Index) → Spoilt x → (binding key : ℕ) → countedIn x binding key ≡ Answer.Poisoned
+spoilt-count x s = count-poisoned (x .head) (x .table) (s .formed) (s .flagged)
 
 pub spoilt-after : (x : Index) → Spoilt x → (cs : List Call) → after x cs ≡ x
 unfolding after

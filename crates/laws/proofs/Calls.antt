@@ -12,16 +12,16 @@ use Rattle.rules.specs.declared.Answer.{Answer}
 use Rattle.rules.specs.declared.Verdict.{Verdict}
 use Rattle.rules.specs.Table.{capacity, postings, wellFormed}
 use Rattle.rules.specs.Answers.{isAccepted, poisons, settled}
-use Rattle.rules.specs.Checks.{Call, prepareChecks, rollbackChecks, removalChecks, publishChecks}
+use Rattle.rules.specs.Checks.{Call, prepareChecks, rollbackChecks, removalChecks, publishChecks, countChecks}
 use Rattle.rules.specs.Publication.{Stage, rolledBack, thenSources}
-use Rattle.rules.specs.Calls.{Outcome, asBefore, decided, headAfter, shown, prepared, prepareOf, rollbackOf, removalOf, publishOf}
+use Rattle.rules.specs.Calls.{Outcome, asBefore, decided, headAfter, shown, prepared, prepareOf, rollbackOf, removalOf, publishOf, countOf}
 use Rattle.laws.specs.Words.{isUnchanged, Stable}
 use Rattle.laws.proofs.Tests.{by-cases, clash}
 use Rattle.laws.proofs.Flat.{well-formed-parts, Sound, sound-postings, well-formed-laid-out, length-laid-out}
 use Rattle.laws.proofs.Undo.{undo-sound}
 use Rattle.laws.proofs.Prepare.{prepare-sound}
 use Rattle.laws.proofs.Remove.{remove-sound}
-use Rattle.laws.proofs.Checks.{isProper, prepare-proper, rollback-proper, removal-proper, publish-proper, Clear, prepare-clear, publish-clear, rollback-formed, removal-formed}
+use Rattle.laws.proofs.Checks.{isProper, prepare-proper, rollback-proper, removal-proper, publish-proper, Clear, prepare-clear, publish-clear, rollback-formed, removal-formed, poisoned-first}
 use Rattle.laws.proofs.Answers.{refusal-unchanged, unchanged-poisons-not}
 use Rattle.laws.proofs.Outcomes.{shown-same, IsStopped, cause-poisons-not, start, going, leaving, recordedBack, undid, removedAlone, Published, published, Prepares, prepares, RollsBack, rolls-back, Removes, removes}
 
@@ -196,3 +196,35 @@ module _ (head : Head) (table : List ℕ) (c : Call) where
   unfolding publishOf
   publish-stable =
       decided-stable (publishChecks head table c) _ (thenSources (c .strip) (leaving head table c) (prepared head table c)) (publish-proper head table c) publish-shows
+
+  -- a poisoned table is refused with 2 by every call, and nothing changes
+  pub prepare-poisoned :
+      wellFormed head table ≡ true → head .poisoned ≡ 1 →
+      prepareOf head table c ≡ asBefore head table (c .recordList) Answer.Poisoned
+  unfolding prepareOf prepareChecks
+  prepare-poisoned h k = rw (poisoned-first head table _ h k)
+
+  pub rollback-poisoned :
+      wellFormed head table ≡ true → head .poisoned ≡ 1 →
+      rollbackOf head table c ≡ asBefore head table (c .recordList) Answer.Poisoned
+  unfolding rollbackOf rollbackChecks
+  rollback-poisoned h k = rw (poisoned-first head table _ h k)
+
+  pub removal-poisoned :
+      wellFormed head table ≡ true → head .poisoned ≡ 1 →
+      removalOf head table c ≡ asBefore head table (c .recordList) Answer.Poisoned
+  unfolding removalOf removalChecks
+  removal-poisoned h k = rw (poisoned-first head table _ h k)
+
+  pub publish-poisoned :
+      wellFormed head table ≡ true → head .poisoned ≡ 1 →
+      publishOf head table c ≡ asBefore head table (c .recordList) Answer.Poisoned
+  unfolding publishOf publishChecks
+  publish-poisoned h k = rw (poisoned-first head table _ h k)
+
+pub count-poisoned :
+    (head : Head) (table : List ℕ) → wellFormed head table ≡ true → head .poisoned ≡ 1 → (binding key : ℕ) →
+    countOf head table binding key ≡ Answer.Poisoned
+unfolding countOf countChecks
+count-poisoned head table h k binding key =
+    rw (poisoned-first head table _ h k)

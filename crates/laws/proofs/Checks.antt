@@ -6,7 +6,7 @@ use mathlib.Core.List.{List, [], _∷_, _++_}
 use mathlib.Core.Bool.{Bool, true, false, not, _&&_, _||_, or-assoc}
 use lib.ListN.{length}
 use lib.Dec.{eqb, ltb, leb}
-use borrow.Author.Tests.{eqb-true, leb-true, not-true}
+use borrow.Author.Tests.{ne-eqb, eqb-true, leb-true, not-true}
 use Rattle.rules.specs.declared.Posting.{Posting}
 use Rattle.rules.specs.declared.Key.{Key}
 use Rattle.rules.specs.declared.Change.{Change}
@@ -328,3 +328,12 @@ module _ (head : Head) (table : List ℕ) (c : Call) where
   pub removal-formed : removalChecks head table c ≡ Verdict.Passes → (wellFormed head table ≡ true) × (head .poisoned ≡ 0)
   unfolding removalChecks
   removal-formed h = formed-first _ h
+
+-- a poisoned table is refused with 2, whatever else is lent
+pub poisoned-first :
+    (head : Head) (table : List ℕ) (vs : List Verdict) → wellFormed head table ≡ true → head .poisoned ≡ 1 →
+    firstRefusal (tableCheck head table ∷ poisonCheck head ∷ vs) ≡ Verdict.Refused Answer.Poisoned
+unfolding firstRefusal tableCheck poisonCheck
+poisoned-first head table vs h k =
+    let n : eqb (head .poisoned) 0 ≡ false = ne-eqb (head .poisoned) 0 (λ e. omega arith) in
+    rw (h, n)

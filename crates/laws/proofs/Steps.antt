@@ -33,6 +33,15 @@ unfolding removal
 removal-fails byte p ps h =
     rw (ne-eqb byte 0 h) (by-cases (λ (r : Removal). r .failed ≡ true) (eqb byte 1) (λ e. refl) (λ e. refl))
 
+-- byte 1 keeps the posting, byte 2 takes it
+pub removal-keeps : (p : Posting) (ps : List Posting) → removal 1 p ps ≡ record { failed = true; postings = ps }
+unfolding removal
+removal-keeps p ps = refl
+
+pub removal-takes : (p : Posting) (ps : List Posting) → removal 2 p ps ≡ record { failed = true; postings = removed p ps }
+unfolding removal
+removal-takes p ps = refl
+
 -- whatever the byte, the posting is there as before or is gone
 pub removal-leaves :
     (byte : ℕ) (p : Posting) (ps : List Posting) →
