@@ -43,23 +43,23 @@ unfoldable pub firstFailing : {A : Type 0} → (A → Bool) → (ℕ → A → A
 firstFailing test answer i [] = Verdict.Passes
 firstFailing test answer i (x ∷ xs) = orElse (must (test x) (answer i x)) (firstFailing test answer (i + 1) xs)
 
--- 1
+-- 1 TABLE
 unfoldable pub tableCheck : Head → List ℕ → Verdict
 tableCheck head table = must (wellFormed head table) Answer.Table
 
--- 2
+-- 2 POISONED
 unfoldable pub poisonCheck : Head → Verdict
 poisonCheck head = must (eqb (head .poisoned) 0) Answer.Poisoned
 
--- 3
+-- 3 LIST
 unfoldable pub listCheck : Call → Verdict
 listCheck c = must (properLists (c .changeList) (c .guardList)) Answer.List
 
--- 4
+-- 4 STRIP
 unfoldable pub stripCheck : Call → Verdict
 stripCheck c = must (properStrip (c .strip)) Answer.Strip
 
--- 5: the record list has a place for each change
+-- 5 ROOM: the record list has a place for each change
 unfoldable pub roomCheck : Call → Verdict
 roomCheck c = must (leb (length (changesOf c)) (length (c .recordList))) Answer.Room
 
@@ -73,7 +73,7 @@ unfoldable pub guarded : ℕ → List Guard → Change → Bool
 guarded bindings gs c =
     ltb (c .binding) bindings && heldKey (c .binding) (c .before) gs && heldKey (c .binding) (c .after) gs
 
--- 6: the first change that is not guarded
+-- 6 GUARD: the first change that is not guarded
 unfoldable pub guardCheck : Head → Call → Verdict
 guardCheck head c =
     firstFailing (guarded (head .bindings) (guards (c .guardList))) (λ i change. Answer.Guard i) 0 (changesOf c)
@@ -91,7 +91,7 @@ unfoldable pub among : ℕ → List ℕ → Bool
 among n [] = false
 among n (m ∷ ms) = eqb n m || among n ms
 
--- 14: the first place that means no destination, or whose number is already at an earlier place
+-- 14 RECORD: the first place that means no destination, or whose number is already at an earlier place
 unfoldable pub recordFrom : ℕ → List Change → List ℕ → List ℕ → Verdict
 recordFrom place cs earlier [] = Verdict.Passes
 recordFrom place cs earlier (n ∷ ns) =
@@ -105,7 +105,7 @@ unfoldable pub equalTo : Numbered → List Numbered → Verdict
 equalTo d earlier =
     firstFailing (λ (e : Numbered). not (same (e .posting) (d .posting))) (λ i e. Answer.Twice (e .number) (d .number)) 0 earlier
 
--- 7: each destination in turn (j) beside those before it, from the first on (i)
+-- 7 TWICE: each destination in turn (j) beside those before it, from the first on (i)
 unfoldable pub twiceFrom : List Numbered → List Numbered → Verdict
 twiceFrom earlier [] = Verdict.Passes
 twiceFrom earlier (d ∷ ds) = orElse (equalTo d earlier) (twiceFrom (earlier ++ d ∷ []) ds)
@@ -113,7 +113,7 @@ twiceFrom earlier (d ∷ ds) = orElse (equalTo d earlier) (twiceFrom (earlier ++
 unfoldable pub twiceCheck : Call → Verdict
 twiceCheck c = twiceFrom [] (destinations (changesOf c))
 
--- 8: the first destination that stands in the table
+-- 8 PRESENT: the first destination that stands in the table
 unfoldable pub presentCheck : Head → List ℕ → Call → Verdict
 presentCheck head table c =
     firstFailing (λ (d : Numbered). not (present (d .posting) (postings (head .used) table)))
@@ -121,7 +121,7 @@ presentCheck head table c =
     0
     (destinations (changesOf c))
 
--- 9: the first source that equals a destination of the list, its own change's or another's
+-- 9 OVERLAP: the first source that equals a destination of the list, its own change's or another's
 unfoldable pub overlapCheck : Call → Verdict
 overlapCheck c =
     firstFailing (λ (s : Numbered). not (present (s .posting) (postingsOf (destinations (changesOf c)))))
@@ -129,6 +129,7 @@ overlapCheck c =
     0
     (sources (changesOf c))
 
+-- the checks of each call, in their order
 unfoldable pub prepareChecks : Head → List ℕ → Call → Verdict
 prepareChecks head table c =
     firstRefusal

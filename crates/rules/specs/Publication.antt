@@ -22,10 +22,8 @@ pub record Undone : Type 0 where
 unfoldable pub undoing : List ℕ → List Numbered → Verdict → ℕ → List Posting → Undone
 undoing strip [] verdict read ps = record { verdict = verdict; postings = ps; read = read }
 undoing strip (d ∷ ds) verdict read ps =
-    undoing strip ds
-    (cond (removal (byteAt strip read) (d .posting) ps .failed) (Verdict.Refused (Answer.Undo (d .number))) verdict)
-    (read + 1)
-    (removal (byteAt strip read) (d .posting) ps .postings)
+    let r = removal (byteAt strip read) (d .posting) ps in
+    undoing strip ds (cond (r .failed) (Verdict.Refused (Answer.Undo (d .number))) verdict) (read + 1) (r .postings)
 
 -- what a part of a call leaves: its answer, the postings, and how many bytes are read
 pub record Stage : Type 0 where
@@ -51,17 +49,18 @@ byFault Fault.Full change back next = notInserted (Answer.Full change) change ba
 unfoldable pub preparing : ℕ → List ℕ → List Numbered → List Numbered → ℕ → List Posting → Stage
 preparing capacity strip [] done read ps = record { answer = Answer.Accepted (length done); postings = ps; read = read }
 preparing capacity strip (d ∷ ds) done read ps =
-    byFault (insertion (byteAt strip read) capacity (d .posting) ps .fault) (d .number)
-    (undoing strip done Verdict.Passes (read + 1) (insertion (byteAt strip read) capacity (d .posting) ps .postings))
-    (preparing capacity strip ds (d ∷ done) (read + 1) (insertion (byteAt strip read) capacity (d .posting) ps .postings))
+    let i = insertion (byteAt strip read) capacity (d .posting) ps in
+    byFault (i .fault) (d .number) (undoing strip done Verdict.Passes (read + 1) (i .postings))
+    (preparing capacity strip ds (d ∷ done) (read + 1) (i .postings))
 
 -- source removal goes up the sources and stops at the first failure; the answer is this one where none failed
 unfoldable pub removing : List ℕ → Answer → List Numbered → ℕ → List Posting → Stage
 removing strip clear [] read ps = record { answer = clear; postings = ps; read = read }
 removing strip clear (d ∷ ds) read ps =
-    cond (removal (byteAt strip read) (d .posting) ps .failed)
-    (record { answer = Answer.Source (d .number); postings = removal (byteAt strip read) (d .posting) ps .postings; read = read + 1 })
-    (removing strip clear ds (read + 1) (removal (byteAt strip read) (d .posting) ps .postings))
+    let r = removal (byteAt strip read) (d .posting) ps in
+    cond (r .failed)
+    (record { answer = Answer.Source (d .number); postings = r .postings; read = read + 1 })
+    (removing strip clear ds (read + 1) (r .postings))
 
 -- rollback, over its record from the end to the start
 abbrev pub rolledBack : Undone → Stage
