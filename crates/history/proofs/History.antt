@@ -1,4 +1,4 @@
--- Demand 3. Each publish either leaves the index as it was, or is accepted and leaves what it says, or breaks it; by induction
+-- Right or withheld. Each publish either leaves the index as it was, or is accepted and leaves what it says, or breaks it; by induction
 -- over the calls that makes the history right until it is withheld.
 use Prim.Native.Nat.{ℕ}
 use mathlib.Core.Path.{_≡_, refl, sym, ap, _∙_}
@@ -11,21 +11,22 @@ use Rattle.rules.specs.declared.Posting.{Posting}
 use Rattle.rules.specs.declared.Head.{Head}
 use Rattle.rules.specs.declared.Answer.{Answer}
 use Rattle.rules.specs.declared.Verdict.{Verdict}
-use Rattle.rules.specs.Postings.{every, present, counted}
+use Rattle.rules.specs.Postings.{every, ascending, present, bucket, counted}
 use Rattle.rules.specs.Table.{postings, wellFormed}
 use Rattle.rules.specs.Orders.{properStrip, destinations, sources}
 use Rattle.rules.specs.Answers.{isAccepted, poisons, settled}
 use Rattle.rules.specs.Checks.{Call, changesOf, must, orElse, firstRefusal, tableCheck, poisonCheck, listCheck, stripCheck, roomCheck, guardCheck, twiceCheck, presentCheck, overlapCheck, publishChecks, countChecks}
-use Rattle.rules.specs.Calls.{Outcome, asBefore, countOf}
+use Rattle.rules.specs.Calls.{Outcome, headWith, asBefore, countOf}
 use Rattle.laws.specs.Words.{added, takenAway}
 use Rattle.laws.proofs.Tests.{clash, and-left, and-right}
 use Rattle.laws.proofs.Flat.{well-formed-parts, used-postings, laid-out-same, postings-laid-out}
 use Rattle.laws.proofs.Answers.{Kind, kind}
 use Rattle.laws.proofs.Checks.{first-passes, rest-passes, cons-passes}
 use Rattle.laws.proofs.Sets.{present-said}
+use Rattle.laws.proofs.Rows.{bucket-among, bucket-rising}
 use Rattle.laws.proofs.Calls.{publish-as-before, publish-well-formed, publish-stable, publish-poisoned, count-poisoned}
 use Rattle.history.specs.Acceptance.{Acceptable}
-use Rattle.history.specs.History.{Index, published, countedIn, left, after, outcomes, unbroken, accepted, acceptedOutcomes, said, saidOf, ownCount, postingsIn, holding, quiet, Empty, Alike, Right, Withheld, Demand}
+use Rattle.history.specs.History.{Index, published, countedIn, postingsIn, indexOf, after, outcomes, unbroken, accepted, acceptedOutcomes, said, saidOf, ownCount, holding, quiet, Holds, Alike, CountSaid, Right, Break, Withheld, RightOrWithheld}
 use Rattle.history.proofs.Acceptance.{accepted-exactly, acceptable-outcome}
 
 -- well formed and unpoisoned: what every call but 12 and 13 leaves
@@ -44,12 +45,12 @@ live-holding x l =
     let w = well-formed-parts (x .head) (x .table) (l .formed) in
     let u = sym (used-postings (x .head) (x .table) w) in
     let t = sym (laid-out-same (x .head) (x .table) w) in
-    λ i. record { head = record { bindings = x .head .bindings; used = u i; poisoned = l .healthy i }; table = t i }
+    λ i. record { head = headWith (x .head) (u i) (l .healthy i); table = t i }
 
 -- one publish: the index stays; or the call is accepted; or it answers 12 or 13
 pub data Step (x : Index) (c : Call) : Type 0 where
   stays :
-      left (published x c) ≡ x → isAccepted (published x c .answer) ≡ false → poisons (published x c .answer) ≡ false → Step x c
+      indexOf (published x c) ≡ x → isAccepted (published x c .answer) ≡ false → poisons (published x c .answer) ≡ false → Step x c
   takes :
       Acceptable (x .head) (x .table) c → isAccepted (published x c .answer) ≡ true → poisons (published x c .answer) ≡ false →
       Step x c
@@ -62,11 +63,11 @@ step x c = go (published x c .answer) refl (kind (published x c .answer))
     go a e (Kind.taken n) = takes (accepted-exactly (x .head) (x .table) c .0 (rw e)) (rw e) (rw e)
     go a e (Kind.kept u n p) =
         let o = publish-as-before (x .head) (x .table) c (rw e u) in
-        stays (ap left o) (rw e n) (rw e p)
+        stays (ap indexOf o) (rw e n) (rw e p)
     go a e (Kind.broken u n p) = breaks (rw e n) (rw e p)
 
 -- an index that a publish did not break is live; one that it broke is spoilt
-live-next : (x : Index) (c : Call) → Live x → poisons (published x c .answer) ≡ false → Live (left (published x c))
+live-next : (x : Index) (c : Call) → Live x → poisons (published x c .answer) ≡ false → Live (indexOf (published x c))
 live-next x c l h =
     record {
       formed = publish-well-formed (x .head) (x .table) c (l .formed);
@@ -75,7 +76,7 @@ live-next x c l h =
 
 spoilt-next :
     (x : Index) (c : Call) → wellFormed (x .head) (x .table) ≡ true → poisons (published x c .answer) ≡ true →
-    Spoilt (left (published x c))
+    Spoilt (indexOf (published x c))
 spoilt-next x c f h =
     record {
       formed = publish-well-formed (x .head) (x .table) c f;
@@ -83,7 +84,7 @@ spoilt-next x c f h =
     }
 
 -- size and binding count stay, so what holds postings here holds them there
-holding-next : (x : Index) (c : Call) (ps : List Posting) → holding (left (published x c)) ps ≡ holding x ps
+holding-next : (x : Index) (c : Call) (ps : List Posting) → holding (indexOf (published x c)) ps ≡ holding x ps
 holding-next x c ps =
     let s = publish-stable (x .head) (x .table) c in
     rw (s .bindings, s .size)
@@ -91,7 +92,7 @@ holding-next x c ps =
 -- an accepted call leaves the postings that it says
 postings-next :
     (x : Index) (c : Call) → Acceptable (x .head) (x .table) c →
-    postingsIn (left (published x c)) ≡ takenAway (sources (changesOf c)) (added (destinations (changesOf c)) (postingsIn x))
+    postingsIn (indexOf (published x c)) ≡ takenAway (sources (changesOf c)) (added (destinations (changesOf c)) (postingsIn x))
 postings-next x c a =
     ap (λ (o : Outcome). postings (o .head .used) (o .table)) (acceptable-outcome (x .head) (x .table) c a)
     ∙ postings-laid-out (length (x .table)) (takenAway (sources (changesOf c)) (added (destinations (changesOf c)) (postingsIn x)))
@@ -99,37 +100,37 @@ postings-next x c a =
 unbroken-first : (x : Index) (c : Call) (cs : List Call) → unbroken x (c ∷ cs) ≡ true → poisons (published x c .answer) ≡ false
 unfolding unbroken
 unbroken-first x c cs h =
-    not-true (poisons (published x c .answer)) (and-left (not (poisons (published x c .answer))) (unbroken (left (published x c)) cs) h)
+    not-true (poisons (published x c .answer)) (and-left (not (poisons (published x c .answer))) (unbroken (indexOf (published x c)) cs) h)
 
-unbroken-rest : (x : Index) (c : Call) (cs : List Call) → unbroken x (c ∷ cs) ≡ true → unbroken (left (published x c)) cs ≡ true
+unbroken-rest : (x : Index) (c : Call) (cs : List Call) → unbroken x (c ∷ cs) ≡ true → unbroken (indexOf (published x c)) cs ≡ true
 unfolding unbroken
 unbroken-rest x c cs h =
-    and-right (not (poisons (published x c .answer))) (unbroken (left (published x c)) cs) h
+    and-right (not (poisons (published x c .answer))) (unbroken (indexOf (published x c)) cs) h
 
 -- from any live index: an unbroken history leaves it live, with what the accepted calls say
 live-after : (x : Index) (cs : List Call) → Live x → unbroken x cs ≡ true → Live (after x cs)
 unfolding after
 live-after x [] l h = l
 live-after x (c ∷ cs) l h =
-    live-after (left (published x c)) cs (live-next x c l (unbroken-first x c cs h)) (unbroken-rest x c cs h)
+    live-after (indexOf (published x c)) cs (live-next x c l (unbroken-first x c cs h)) (unbroken-rest x c cs h)
 
 bindings-after : (x : Index) (cs : List Call) → after x cs .head .bindings ≡ x .head .bindings
 unfolding after
 bindings-after x [] = refl
-bindings-after x (c ∷ cs) = bindings-after (left (published x c)) cs ∙ publish-stable (x .head) (x .table) c .bindings
+bindings-after x (c ∷ cs) = bindings-after (indexOf (published x c)) cs ∙ publish-stable (x .head) (x .table) c .bindings
 
 pub said-after :
     (x : Index) (cs : List Call) → Live x → unbroken x cs ≡ true → after x cs ≡ holding x (said (accepted x cs) (postingsIn x))
 unfolding after accepted said
 said-after x [] l h = live-holding x l
-said-after x (c ∷ cs) l h = go (step x c) (said-after (left (published x c)) cs (live-next x c l (unbroken-first x c cs h)) (unbroken-rest x c cs h))
+said-after x (c ∷ cs) l h = go (step x c) (said-after (indexOf (published x c)) cs (live-next x c l (unbroken-first x c cs h)) (unbroken-rest x c cs h))
   where
     go :
         Step x c →
-        after (left (published x c)) cs ≡ holding (left (published x c)) (said (accepted (left (published x c)) cs) (postingsIn (left (published x c)))) →
-        after (left (published x c)) cs ≡ holding x (said (cond (isAccepted (published x c .answer)) (c ∷ accepted (left (published x c)) cs) (accepted (left (published x c)) cs)) (postingsIn x))
-    go (stays e n p) ih = rw n (ih ∙ (holding-next x c _ ∙ ap (λ (y : Index). holding x (said (accepted (left (published x c)) cs) (postingsIn y))) e))
-    go (takes a n p) ih = rw n (ih ∙ (holding-next x c _ ∙ ap (λ l. holding x (said (accepted (left (published x c)) cs) l)) (postings-next x c a)))
+        after (indexOf (published x c)) cs ≡ holding (indexOf (published x c)) (said (accepted (indexOf (published x c)) cs) (postingsIn (indexOf (published x c)))) →
+        after (indexOf (published x c)) cs ≡ holding x (said (cond (isAccepted (published x c .answer)) (c ∷ accepted (indexOf (published x c)) cs) (accepted (indexOf (published x c)) cs)) (postingsIn x))
+    go (stays e n p) ih = rw n (ih ∙ (holding-next x c _ ∙ ap (λ (y : Index). holding x (said (accepted (indexOf (published x c)) cs) (postingsIn y))) e))
+    go (takes a n p) ih = rw n (ih ∙ (holding-next x c _ ∙ ap (λ l. holding x (said (accepted (indexOf (published x c)) cs) l)) (postings-next x c a)))
     go (breaks n p) ih = absurd (clash (poisons (published x c .answer)) p (unbroken-first x c cs h))
 
 -- what calls say, posting by posting
@@ -169,28 +170,28 @@ quiet-same x c a =
 pub replay-after : (x : Index) (cs : List Call) → unbroken x cs ≡ true → after x (map quiet (accepted x cs)) ≡ after x cs
 unfolding after accepted
 replay-after x [] h = refl
-replay-after x (c ∷ cs) h = go (step x c) (replay-after (left (published x c)) cs (unbroken-rest x c cs h))
+replay-after x (c ∷ cs) h = go (step x c) (replay-after (indexOf (published x c)) cs (unbroken-rest x c cs h))
   where
     go :
         Step x c →
-        after (left (published x c)) (map quiet (accepted (left (published x c)) cs)) ≡ after (left (published x c)) cs →
-        after x (map quiet (cond (isAccepted (published x c .answer)) (c ∷ accepted (left (published x c)) cs) (accepted (left (published x c)) cs))) ≡ after (left (published x c)) cs
-    go (stays e n p) ih = rw n (ap (λ (y : Index). after y (map quiet (accepted (left (published x c)) cs))) (sym e) ∙ ih)
+        after (indexOf (published x c)) (map quiet (accepted (indexOf (published x c)) cs)) ≡ after (indexOf (published x c)) cs →
+        after x (map quiet (cond (isAccepted (published x c .answer)) (c ∷ accepted (indexOf (published x c)) cs) (accepted (indexOf (published x c)) cs))) ≡ after (indexOf (published x c)) cs
+    go (stays e n p) ih = rw n (ap (λ (y : Index). after y (map quiet (accepted (indexOf (published x c)) cs))) (sym e) ∙ ih)
     go (takes a n p) ih =
-        rw n (ap (λ (o : Outcome). after (left o) (map quiet (accepted (left (published x c)) cs))) (quiet-same x c a) ∙ ih)
+        rw n (ap (λ (o : Outcome). after (indexOf o) (map quiet (accepted (indexOf (published x c)) cs))) (quiet-same x c a) ∙ ih)
     go (breaks n p) ih = absurd (clash (poisons (published x c .answer)) p (unbroken-first x c cs h))
 
 pub replay-outcomes :
     (x : Index) (cs : List Call) → unbroken x cs ≡ true → outcomes x (map quiet (accepted x cs)) ≡ acceptedOutcomes x cs
 unfolding outcomes accepted acceptedOutcomes
 replay-outcomes x [] h = refl
-replay-outcomes x (c ∷ cs) h = go (step x c) (replay-outcomes (left (published x c)) cs (unbroken-rest x c cs h))
+replay-outcomes x (c ∷ cs) h = go (step x c) (replay-outcomes (indexOf (published x c)) cs (unbroken-rest x c cs h))
   where
     go :
         Step x c →
-        outcomes (left (published x c)) (map quiet (accepted (left (published x c)) cs)) ≡ acceptedOutcomes (left (published x c)) cs →
-        outcomes x (map quiet (cond (isAccepted (published x c .answer)) (c ∷ accepted (left (published x c)) cs) (accepted (left (published x c)) cs))) ≡ cond (isAccepted (published x c .answer)) (published x c ∷ acceptedOutcomes (left (published x c)) cs) (acceptedOutcomes (left (published x c)) cs)
-    go (stays e n p) ih = rw n (ap (λ (y : Index). outcomes y (map quiet (accepted (left (published x c)) cs))) (sym e) ∙ ih)
+        outcomes (indexOf (published x c)) (map quiet (accepted (indexOf (published x c)) cs)) ≡ acceptedOutcomes (indexOf (published x c)) cs →
+        outcomes x (map quiet (cond (isAccepted (published x c .answer)) (c ∷ accepted (indexOf (published x c)) cs) (accepted (indexOf (published x c)) cs))) ≡ cond (isAccepted (published x c .answer)) (published x c ∷ acceptedOutcomes (indexOf (published x c)) cs) (acceptedOutcomes (indexOf (published x c)) cs)
+    go (stays e n p) ih = rw n (ap (λ (y : Index). outcomes y (map quiet (accepted (indexOf (published x c)) cs))) (sym e) ∙ ih)
     go (takes a n p) ih = rw (n, quiet-same x c a) (ap (λ l. published x c ∷ l) ih)
     go (breaks n p) ih = absurd (clash (poisons (published x c .answer)) p (unbroken-first x c cs h))
 
@@ -219,12 +220,12 @@ spoilt-count x s = count-poisoned (x .head) (x .table) (s .formed) (s .flagged)
 pub spoilt-after : (x : Index) → Spoilt x → (cs : List Call) → after x cs ≡ x
 unfolding after
 spoilt-after x s [] = refl
-spoilt-after x s (c ∷ cs) = ap (λ (o : Outcome). after (left o) cs) (spoilt-publish x s c) ∙ spoilt-after x s cs
+spoilt-after x s (c ∷ cs) = ap (λ (o : Outcome). after (indexOf o) cs) (spoilt-publish x s c) ∙ spoilt-after x s cs
 
 after-append : (x : Index) (cs more : List Call) → after x (cs ++ more) ≡ after (after x cs) more
 unfolding after
 after-append x [] more = refl
-after-append x (c ∷ cs) more = after-append (left (published x c)) cs more
+after-append x (c ∷ cs) more = after-append (indexOf (published x c)) cs more
 
 -- a broken history has spoilt the index
 pub broken-after :
@@ -232,28 +233,24 @@ pub broken-after :
 unfolding after unbroken
 broken-after x [] f h = absurd (clash true refl h)
 broken-after x (c ∷ cs) f h =
-    go (poisons (published x c .answer)) refl h (broken-after (left (published x c)) cs (publish-well-formed (x .head) (x .table) c f))
+    go (poisons (published x c .answer)) refl h (broken-after (indexOf (published x c)) cs (publish-well-formed (x .head) (x .table) c f))
   where
     go :
-        (b : Bool) → poisons (published x c .answer) ≡ b → (not b && unbroken (left (published x c)) cs) ≡ false →
-        (unbroken (left (published x c)) cs ≡ false → Spoilt (after (left (published x c)) cs)) →
-        Spoilt (after (left (published x c)) cs)
-    go true e k ih = let s = spoilt-next x c f e in rw (spoilt-after (left (published x c)) s cs) s
+        (b : Bool) → poisons (published x c .answer) ≡ b → (not b && unbroken (indexOf (published x c)) cs) ≡ false →
+        (unbroken (indexOf (published x c)) cs ≡ false → Spoilt (after (indexOf (published x c)) cs)) →
+        Spoilt (after (indexOf (published x c)) cs)
+    go true e k ih = let s = spoilt-next x c f e in rw (spoilt-after (indexOf (published x c)) s cs) s
     go false e k ih = ih k
 
--- an empty index
-empty-live : (x : Index) → Empty x → Live x
-empty-live x e = record { formed = e .formed; healthy = e .healthy }
+-- an index that holds just some postings is live, and told by them, its size and its binding count
+holds-live : (x : Index) (start : List Posting) → Holds x start → Live x
+holds-live x start e = record { formed = e .formed; healthy = e .healthy }
 
-empty-postings : (x : Index) → Empty x → postingsIn x ≡ []
-empty-postings x e = rw (e .unused)
-
--- all empty indexes of one size and binding count are one
-empty-one : (x y : Index) → Empty x → Empty y → Alike x y → y ≡ x
-empty-one x y ex ey a =
-    let hx : x ≡ holding x [] = live-holding x (empty-live x ex) ∙ ap (holding x) (empty-postings x ex) in
-    let hy : y ≡ holding y [] = live-holding y (empty-live y ey) ∙ ap (holding y) (empty-postings y ey) in
-    let k : holding y [] ≡ holding x [] = rw (a .size, a .bindings) in
+holds-one : (x y : Index) (start : List Posting) → Holds x start → Holds y start → Alike x y → y ≡ x
+holds-one x y start ex ey a =
+    let hx : x ≡ holding x start = live-holding x (holds-live x start ex) ∙ ap (holding x) (ex .just) in
+    let hy : y ≡ holding y start = live-holding y (holds-live y start ey) ∙ ap (holding y) (ey .just) in
+    let k : holding y start ≡ holding x start = rw (a .size, a .bindings) in
     hy ∙ (k ∙ sym hx)
 
 -- nothing is accepted by a spoilt index
@@ -271,11 +268,12 @@ record Cut (x : Index) (cs : List Call) : Type 0 where
   fatal : poisons (published (after x before) call .answer) ≡ true
   sound : unbroken x before ≡ true
   taken : accepted x cs ≡ accepted x before
+  stands : after x cs ≡ indexOf (published (after x before) call)
 
 cut : (x : Index) (cs : List Call) → wellFormed (x .head) (x .table) ≡ true → unbroken x cs ≡ false → Cut x cs
 unfolding after unbroken accepted
 cut x [] f h = absurd (clash true refl h)
-cut x (c ∷ cs) f h = go (step x c) (cut (left (published x c)) cs (publish-well-formed (x .head) (x .table) c f))
+cut x (c ∷ cs) f h = go (step x c) (cut (indexOf (published x c)) cs (publish-well-formed (x .head) (x .table) c f))
   where
     here : isAccepted (published x c .answer) ≡ false → poisons (published x c .answer) ≡ true → Cut x (c ∷ cs)
     here n p =
@@ -286,10 +284,11 @@ cut x (c ∷ cs) f h = go (step x c) (cut (left (published x c)) cs (publish-wel
           whole = refl;
           fatal = p;
           sound = refl;
-          taken = rw n (none-taken (left (published x c)) (spoilt-next x c f p) cs);
+          taken = rw n (none-taken (indexOf (published x c)) (spoilt-next x c f p) cs);
+          stands = spoilt-after (indexOf (published x c)) (spoilt-next x c f p) cs;
         }
 
-    further : poisons (published x c .answer) ≡ false → Cut (left (published x c)) cs → Cut x (c ∷ cs)
+    further : poisons (published x c .answer) ≡ false → Cut (indexOf (published x c)) cs → Cut x (c ∷ cs)
     further p k =
         record {
           before = c ∷ k .before;
@@ -299,36 +298,50 @@ cut x (c ∷ cs) f h = go (step x c) (cut (left (published x c)) cs (publish-wel
           fatal = k .fatal;
           sound = rw (p, k .sound);
           taken = rw (k .taken);
+          stands = k .stands;
         }
 
-    rest : poisons (published x c .answer) ≡ false → unbroken (left (published x c)) cs ≡ false
+    rest : poisons (published x c .answer) ≡ false → unbroken (indexOf (published x c)) cs ≡ false
     rest p = rw p at h
 
-    go : Step x c → (unbroken (left (published x c)) cs ≡ false → Cut (left (published x c)) cs) → Cut x (c ∷ cs)
+    go : Step x c → (unbroken (indexOf (published x c)) cs ≡ false → Cut (indexOf (published x c)) cs) → Cut x (c ∷ cs)
     go (stays e n p) ih = further p (ih (rest p))
     go (takes a n p) ih = further p (ih (rest p))
     go (breaks n p) ih = here n p
 
-module _ (x : Index) (e : Empty x) where
-  now : (cs : List Call) → unbroken x cs ≡ true → after x cs ≡ holding x (said (accepted x cs) [])
-  now cs h = said-after x cs (empty-live x e) h ∙ ap (λ l. holding x (said (accepted x cs) l)) (empty-postings x e)
+module _ (x : Index) (start : List Posting) (e : Holds x start) where
+  now : (cs : List Call) → unbroken x cs ≡ true → after x cs ≡ holding x (said (accepted x cs) start)
+  now cs h = said-after x cs (holds-live x start e) h ∙ ap (λ l. holding x (said (accepted x cs) l)) (e .just)
 
-  held-now : (cs : List Call) → unbroken x cs ≡ true → postingsIn (after x cs) ≡ said (accepted x cs) []
-  held-now cs h = ap postingsIn (now cs h) ∙ postings-laid-out (length (x .table)) (said (accepted x cs) [])
+  held-now : (cs : List Call) → unbroken x cs ≡ true → postingsIn (after x cs) ≡ said (accepted x cs) start
+  held-now cs h = ap postingsIn (now cs h) ∙ postings-laid-out (length (x .table)) (said (accepted x cs) start)
 
-  right-until : (cs : List Call) → unbroken x cs ≡ true → Right x cs
-  unfolding present
+  sorted-now : (cs : List Call) → unbroken x cs ≡ true → ascending (said (accepted x cs) start) ≡ true
+  sorted-now cs h =
+      let l = live-after x cs (holds-live x start e) h in
+      rw (held-now cs h) at (well-formed-parts (after x cs .head) (after x cs .table) (l .formed) .sorted)
+
+  right-until : (cs : List Call) → unbroken x cs ≡ true → Right x start cs
   right-until cs h =
       record {
         table = now cs h;
-        set = λ p. ap (present p) (held-now cs h) ∙ said-set (accepted x cs) [] p;
+        set = λ p. ap (present p) (held-now cs h) ∙ said-set (accepted x cs) start p;
         counts = λ binding key.
-            live-count (after x cs) (live-after x cs (empty-live x e) h) binding key ∙ rw (bindings-after x cs, held-now cs h);
-        replay = λ y ey a. rw (empty-one x y e ey a) (replay-after x cs h);
-        records = λ y ey a. rw (empty-one x y e ey a) (replay-outcomes x cs h);
+            live-count (after x cs) (live-after x cs (holds-live x start e) h) binding key ∙ rw (bindings-after x cs, held-now cs h);
+        rows = λ binding key.
+            record {
+              rows = bucket binding key (said (accepted x cs) start);
+              count = refl;
+              ascends = bucket-rising binding key (said (accepted x cs) start) (sorted-now cs h);
+              said = λ row.
+                  bucket-among binding key row (said (accepted x cs) start)
+                  ∙ said-set (accepted x cs) start (record { binding = binding; key = key; row = row });
+            };
+        replay = λ y ey a. rw (holds-one x y start e ey a) (replay-after x cs h);
+        records = λ y ey a. rw (holds-one x y start e ey a) (replay-outcomes x cs h);
       }
 
-  withheld-after : (cs : List Call) → unbroken x cs ≡ false → Withheld x cs
+  withheld-after : (cs : List Call) → unbroken x cs ≡ false → Withheld x start cs
   withheld-after cs h =
       let s = broken-after x cs (e .formed) h in
       let k = cut x cs (e .formed) h in
@@ -339,15 +352,23 @@ module _ (x : Index) (e : Empty x) where
               call = k .call;
               later = k .later;
               whole = k .whole;
+              first = k .sound;
               fatal = k .fatal;
               until = right-until (k .before) (k .sound);
               taken = k .taken;
+              stands = k .stands;
             };
         publishes = spoilt-publish (after x cs) s;
         counts = spoilt-count (after x cs) s;
         fixed = λ more. after-append x cs more ∙ spoilt-after (after x cs) s more;
       }
 
-  -- DEMAND 3: any list of publish calls, under any lists, guards and strips, from any empty index
-  pub demand-3 : (cs : List Call) → Demand x cs
-  demand-3 cs = record { right = right-until cs; withheld = withheld-after cs }
+  -- RIGHT OR WITHHELD: any list of publish calls, under any lists, guards and strips
+  pub right-or-withheld : (cs : List Call) → RightOrWithheld x start cs
+  right-or-withheld cs = record { right = right-until cs; withheld = withheld-after cs }
+
+-- and from an empty index: well formed, unpoisoned, used 0
+pub right-or-withheld-from-empty :
+    (x : Index) → wellFormed (x .head) (x .table) ≡ true → x .head .poisoned ≡ 0 → x .head .used ≡ 0 → (cs : List Call) →
+    RightOrWithheld x [] cs
+right-or-withheld-from-empty x f p u = right-or-withheld x [] (record { formed = f; healthy = p; just = rw u })

@@ -1,5 +1,5 @@
--- Demand 3: a table that only publish calls write. All words here are over the rules of one publish and one count; there is no
--- second model.
+-- Right or withheld: what can be said of a table that only publish calls write. All words here are over the rules of one
+-- publish and one count; there is no second model.
 use Prim.Native.Nat.{ℕ}
 use mathlib.Core.Path.{_≡_}
 use mathlib.Core.List.{List, [], _∷_, _++_, map}
@@ -13,54 +13,59 @@ use Rattle.rules.specs.Postings.{present, counted}
 use Rattle.rules.specs.Table.{postings, laidOut, wellFormed}
 use Rattle.rules.specs.Orders.{destinations, sources, postingsOf}
 use Rattle.rules.specs.Answers.{isAccepted, poisons}
-use Rattle.rules.specs.Checks.{Call, changesOf}
-use Rattle.rules.specs.Calls.{Outcome, asBefore, publishOf, countOf}
-use Rattle.laws.specs.Words.{added, takenAway}
+use Rattle.rules.specs.Checks.{Call, changesOf, among}
+use Rattle.rules.specs.Calls.{Outcome, asBefore, headWith, publishOf, countOf}
+use Rattle.laws.specs.Words.{added, takenAway, rising}
 
 -- a table with its head
 pub record Index : Type 0 where
   pub head : Head
   pub table : List ℕ
 
+-- what a publish answers and leaves there
 abbrev pub published : Index → Call → Outcome
 published x c = publishOf (x .head) (x .table) c
 
+-- what a count answers there
 abbrev pub countedIn : Index → ℕ → ℕ → Answer
 countedIn x binding key = countOf (x .head) (x .table) binding key
 
+-- the postings that it holds
 abbrev pub postingsIn : Index → List Posting
 postingsIn x = postings (x .head .used) (x .table)
 
-abbrev pub left : Outcome → Index
-left o = record { head = o .head; table = o .table }
+-- the index that an outcome leaves
+abbrev pub indexOf : Outcome → Index
+indexOf o = record { head = o .head; table = o .table }
 
 -- the index after a list of publish calls
 unfoldable pub after : Index → List Call → Index
 after x [] = x
-after x (c ∷ cs) = after (left (published x c)) cs
+after x (c ∷ cs) = after (indexOf (published x c)) cs
 
 -- what each call answered and left: answer, head, table and record list
 unfoldable pub outcomes : Index → List Call → List Outcome
 outcomes x [] = []
-outcomes x (c ∷ cs) = published x c ∷ outcomes (left (published x c)) cs
+outcomes x (c ∷ cs) = published x c ∷ outcomes (indexOf (published x c)) cs
 
 -- no call answered 12 or 13
 unfoldable pub unbroken : Index → List Call → Bool
 unbroken x [] = true
-unbroken x (c ∷ cs) = not (poisons (published x c .answer)) && unbroken (left (published x c)) cs
+unbroken x (c ∷ cs) = not (poisons (published x c .answer)) && unbroken (indexOf (published x c)) cs
 
--- the calls that were accepted, in order, and their outcomes
+-- the calls that were accepted, in order
 unfoldable pub accepted : Index → List Call → List Call
 accepted x [] = []
 accepted x (c ∷ cs) =
-    cond (isAccepted (published x c .answer)) (c ∷ accepted (left (published x c)) cs) (accepted (left (published x c)) cs)
+    cond (isAccepted (published x c .answer)) (c ∷ accepted (indexOf (published x c)) cs) (accepted (indexOf (published x c)) cs)
 
+-- and their outcomes
 unfoldable pub acceptedOutcomes : Index → List Call → List Outcome
 acceptedOutcomes x [] = []
 acceptedOutcomes x (c ∷ cs) =
     cond (isAccepted (published x c .answer))
-    (published x c ∷ acceptedOutcomes (left (published x c)) cs)
-    (acceptedOutcomes (left (published x c)) cs)
+    (published x c ∷ acceptedOutcomes (indexOf (published x c)) cs)
+    (acceptedOutcomes (indexOf (published x c)) cs)
 
 -- what calls say, in order: destinations added, sources taken away
 unfoldable pub said : List Call → List Posting → List Posting
@@ -81,53 +86,64 @@ ownCount x ps binding key =
 
 -- the index of this size and binding count that holds these postings, unpoisoned
 abbrev pub holding : Index → List Posting → Index
-holding x ps =
-    record {
-      head = record { bindings = x .head .bindings; used = length ps; poisoned = 0 };
-      table = laidOut (length (x .table)) ps;
-    }
+holding x ps = record { head = headWith (x .head) (length ps) 0; table = laidOut (length (x .table)) ps }
 
 -- the same call with no storage failure
 abbrev pub quiet : Call → Call
 quiet c = record { changeList = c .changeList; guardList = c .guardList; strip = []; recordList = c .recordList }
 
--- well formed, empty, unpoisoned
-pub record Empty (x : Index) : Type 0 where
+-- well formed, unpoisoned, and holding just these postings; with none, it is empty
+pub record Holds (x : Index) (start : List Posting) : Type 0 where
   pub formed : wellFormed (x .head) (x .table) ≡ true
-  pub unused : x .head .used ≡ 0
   pub healthy : x .head .poisoned ≡ 0
+  pub just : postingsIn x ≡ start
 
 -- of equal size and binding count
 pub record Alike (x y : Index) : Type 0 where
   pub size : length (y .table) ≡ length (x .table)
   pub bindings : y .head .bindings ≡ x .head .bindings
 
--- until a call answers 12 or 13
-pub record Right (x : Index) (cs : List Call) : Type 0 where
+-- the number of rows whose posting, under this binding and key, is among what calls say: those rows, each once, ascending
+pub record CountSaid (start : List Posting) (cs : List Call) (binding key n : ℕ) : Type 0 where
+  pub rows : List ℕ
+  pub count : n ≡ length rows
+  pub ascends : rising 0 rows ≡ true
+  pub said :
+      (row : ℕ) →
+      among row rows ≡
+      saidOf cs (record { binding = binding; key = key; row = row }) (present (record { binding = binding; key = key; row = row }) start)
+
+-- until a call answers 12 or 13, from an index that holds the postings start
+pub record Right (x : Index) (start : List Posting) (cs : List Call) : Type 0 where
   -- table and head are what the accepted calls alone say, in order
-  pub table : after x cs ≡ holding x (said (accepted x cs) [])
+  pub table : after x cs ≡ holding x (said (accepted x cs) start)
   -- and so the postings that stand there
-  pub set : (p : Posting) → present p (postingsIn (after x cs)) ≡ saidOf (accepted x cs) p false
+  pub set : (p : Posting) → present p (postingsIn (after x cs)) ≡ saidOf (accepted x cs) p (present p start)
   -- a count answered now is that table's own number
-  pub counts : (binding key : ℕ) → countedIn (after x cs) binding key ≡ ownCount x (said (accepted x cs) []) binding key
-  -- the accepted calls replayed with empty strips, on an empty index of equal size and binding count, give the same table and
-  -- head, and the same answers and records on the way, number for number
-  pub replay : (y : Index) → Empty y → Alike x y → after y (map quiet (accepted x cs)) ≡ after x cs
-  pub records : (y : Index) → Empty y → Alike x y → outcomes y (map quiet (accepted x cs)) ≡ acceptedOutcomes x cs
+  pub counts : (binding key : ℕ) → countedIn (after x cs) binding key ≡ ownCount x (said (accepted x cs) start) binding key
+  -- and that is the number of rows that the accepted calls say
+  pub rows : (binding key : ℕ) → CountSaid start (accepted x cs) binding key (counted binding key (said (accepted x cs) start))
+  -- the accepted calls replayed with empty strips, on an index of equal size and binding count that holds the same start, give
+  -- the same table and head, and the same answers and records on the way, number for number
+  pub replay : (y : Index) → Holds y start → Alike x y → after y (map quiet (accepted x cs)) ≡ after x cs
+  pub records : (y : Index) → Holds y start → Alike x y → outcomes y (map quiet (accepted x cs)) ≡ acceptedOutcomes x cs
 
 -- the first call that answers 12 or 13: until it the history was right, and no later call is accepted
-pub record Break (x : Index) (cs : List Call) : Type 0 where
+pub record Break (x : Index) (start : List Posting) (cs : List Call) : Type 0 where
   pub before : List Call
   pub call : Call
   pub later : List Call
   pub whole : cs ≡ before ++ call ∷ later
+  pub first : unbroken x before ≡ true
   pub fatal : poisons (published (after x before) call .answer) ≡ true
-  pub until : Right x before
+  pub until : Right x start before
   pub taken : accepted x cs ≡ accepted x before
+  -- table and head are as that call left them
+  pub stands : after x cs ≡ indexOf (published (after x before) call)
 
 -- after a call has answered 12 or 13
-pub record Withheld (x : Index) (cs : List Call) : Type 0 where
-  pub break : Break x cs
+pub record Withheld (x : Index) (start : List Posting) (cs : List Call) : Type 0 where
+  pub break : Break x start cs
   -- every publish is refused as poisoned and changes nothing
   pub publishes :
       (c : Call) → published (after x cs) c ≡ asBefore (after x cs .head) (after x cs .table) (c .recordList) Answer.Poisoned
@@ -136,7 +152,7 @@ pub record Withheld (x : Index) (cs : List Call) : Type 0 where
   -- and table and head stay fixed, whatever is called
   pub fixed : (more : List Call) → after x (cs ++ more) ≡ after x cs
 
--- any list of calls from an empty index: right, or withheld
-pub record Demand (x : Index) (cs : List Call) : Type 0 where
-  pub right : unbroken x cs ≡ true → Right x cs
-  pub withheld : unbroken x cs ≡ false → Withheld x cs
+-- any list of calls: right, or withheld
+pub record RightOrWithheld (x : Index) (start : List Posting) (cs : List Call) : Type 0 where
+  pub right : unbroken x cs ≡ true → Right x start cs
+  pub withheld : unbroken x cs ≡ false → Withheld x start cs

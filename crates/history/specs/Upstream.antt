@@ -16,8 +16,8 @@ use Rattle.rules.specs.Orders.{guards, destinations, sources, postingsOf, numbe
 use Rattle.rules.specs.Answers.{isAccepted, poisons}
 use Rattle.rules.specs.Checks.{Call, changesOf, guarded, recordable, among, recordFrom}
 use Rattle.rules.specs.Calls.{Outcome, asBefore, written}
-use Rattle.laws.specs.Words.{RemovedOnly, Stable, rising}
-use Rattle.laws.specs.Names.{nowhere, twins, Repeated}
+use Rattle.laws.specs.Words.{nowhere, RemovedOnly, Stable, rising}
+use Rattle.laws.specs.Names.{twins, Repeated}
 
 abbrev pub postingsBefore : Head → List ℕ → List Posting
 postingsBefore head table = postings (head .used) table

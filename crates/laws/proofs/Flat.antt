@@ -13,7 +13,7 @@ use Rattle.rules.specs.declared.Posting.{Posting}
 use Rattle.rules.specs.declared.Head.{Head}
 use Rattle.rules.specs.Limits.{mostNumbers, mostBindings}
 use Rattle.rules.specs.Postings.{every, ascending, within}
-use Rattle.rules.specs.Table.{cells, capacity, postings, numbers, laidOut, allOf, wellFormed}
+use Rattle.rules.specs.Table.{cells, capacity, postings, numbers, laidOut, allOf, limitsHold, wellFormed}
 use Rattle.laws.proofs.Tests.{and-left, and-right, both}
 
 pub length-numbers : (ps : List Posting) → length (numbers ps) ≡ length ps * 3
@@ -79,35 +79,35 @@ unfolding allOf
 all-none = refl
 
 pub well-formed-parts : (head : Head) (table : List ℕ) → wellFormed head table ≡ true → WellFormed head table
-unfolding wellFormed
+unfolding wellFormed limitsHold
 well-formed-parts head table h0 =
+    let l0 = all-first _ _ h0 in
+    let l1 = all-rest _ _ l0 in
     let h1 = all-rest _ _ h0 in
     let h2 = all-rest _ _ h1 in
     let h3 = all-rest _ _ h2 in
     let h4 = all-rest _ _ h3 in
     let h5 = all-rest _ _ h4 in
-    let h6 = all-rest _ _ h5 in
-    let h7 = all-rest _ _ h6 in
     record {
-      threes = eqb-true _ _ (all-first _ _ h0);
-      size = leb-true _ _ (all-first _ _ h1);
-      bindings = leb-true _ _ (all-first _ _ h2);
-      flag = leb-true _ _ (all-first _ _ h3);
-      room = leb-true _ _ (all-first _ _ h4);
-      sorted = all-first _ _ h5;
-      bound = all-first _ _ h6;
-      rest = all-first _ _ h7;
+      threes = eqb-true _ _ (all-first _ _ l0);
+      size = leb-true _ _ (all-first _ _ l1);
+      bindings = leb-true _ _ (all-first _ _ (all-rest _ _ l1));
+      flag = leb-true _ _ (all-first _ _ h1);
+      room = leb-true _ _ (all-first _ _ h2);
+      sorted = all-first _ _ h3;
+      bound = all-first _ _ h4;
+      rest = all-first _ _ h5;
     }
 
 pub parts-well-formed : (head : Head) (table : List ℕ) → WellFormed head table → wellFormed head table ≡ true
-unfolding wellFormed
+unfolding wellFormed limitsHold
 parts-well-formed head table w =
-    all-cons _ _ (eq-eqb _ _ (w .threes))
-    (all-cons _ _ (le-leb _ _ (w .size))
-    (all-cons _ _ (le-leb _ _ (w .bindings))
+    all-cons _ _
+    (all-cons _ _ (eq-eqb _ _ (w .threes))
+    (all-cons _ _ (le-leb _ _ (w .size)) (all-cons _ _ (le-leb _ _ (w .bindings)) all-none)))
     (all-cons _ _ (le-leb _ _ (w .flag))
     (all-cons _ _ (le-leb _ _ (w .room))
-    (all-cons _ _ (w .sorted) (all-cons _ _ (w .bound) (all-cons _ _ (w .rest) all-none)))))))
+    (all-cons _ _ (w .sorted) (all-cons _ _ (w .bound) (all-cons _ _ (w .rest) all-none)))))
 
 module _ (head : Head) (table : List ℕ) (w : WellFormed head table) where
   reach : head .used * 3 ≤ length table

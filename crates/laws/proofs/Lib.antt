@@ -13,4 +13,5 @@ pub mod Outcomes
 pub mod Calls
 pub mod Sets
 pub mod Records
+pub mod Rows
 pub mod Names

@@ -4,12 +4,12 @@ use native.Mathlib.Nat.{zero-add}
 use native.Mathlib.Omega.{arith}
 use mathlib.Core.Path.{_≡_, refl, sym, ap, _∙_}
 use mathlib.Core.List.{List, [], _∷_, _++_}
-use mathlib.Core.Bool.{Bool, true, false, not, _&&_, _||_}
+use mathlib.Core.Bool.{Bool, true, false, not, _&&_, _||_, or-true}
 use mathlib.Core.Logic.{_⊎_, inl, inr}
 use lib.ListN.{length, getD, length-append, List·getD-append}
 use lib.Seq.{getD-append-seam, append-snoc}
 use lib.Dec.{eqb}
-use borrow.Author.Tests.{eqb-true, eqb-false, not-true, not-false}
+use borrow.Author.Tests.{eq-eqb, eqb-true, eqb-false, not-true, not-false}
 use Rattle.rules.specs.declared.Change.{Change}
 use Rattle.rules.specs.declared.Guard.{Guard}
 use Rattle.rules.specs.declared.Head.{Head}
@@ -17,10 +17,10 @@ use Rattle.rules.specs.declared.Answer.{Answer}
 use Rattle.rules.specs.declared.Verdict.{Verdict}
 use Rattle.rules.specs.Postings.{present}
 use Rattle.rules.specs.Table.{postings}
-use Rattle.rules.specs.Orders.{Numbered, guards, destinations, sources, postingsOf, noChange}
-use Rattle.rules.specs.Checks.{Call, changesOf, must, orElse, firstFailing, guarded, guardCheck, recordable, among, recordFrom, recordCheck, equalTo, twiceFrom, twiceCheck, presentCheck, overlapCheck}
-use Rattle.laws.specs.Words.{numberAt}
-use Rattle.laws.specs.Names.{nowhere, FirstAt, twins, FirstPair, Repeated, FirstBad}
+use Rattle.rules.specs.Orders.{Numbered, guards, held, destinations, sources, postingsOf, noChange}
+use Rattle.rules.specs.Checks.{Call, changesOf, must, orElse, firstRefusal, firstFailing, guarded, guardCheck, recordable, among, recordFrom, recordCheck, equalTo, twiceFrom, twiceCheck, presentCheck, overlapCheck}
+use Rattle.laws.specs.Words.{nowhere, numberAt}
+use Rattle.laws.specs.Names.{noGuard, FirstAt, NamesFirst, Apart, twins, FirstPair, NamesPair, Repeated, FirstBad, NamesBad, Holder, RefusedAt}
 use Rattle.laws.proofs.Tests.{clash, and-left, and-right, or-left, or-right}
 use Rattle.laws.proofs.Lists.{or-swap}
 use Rattle.laws.proofs.Checks.{failing-first, failing-rest}
@@ -35,14 +35,9 @@ failing-passes none test answer i (x ∷ xs) h (suc k) l =
     failing-passes none test answer (i + 1) xs (failing-rest test answer i x xs h) k (omega arith)
 
 -- where one fails, the first is named
-pub record Named {A : Type 0} (none : A) (test : A → Bool) (answer : ℕ → A → Answer) (i : ℕ) (xs : List A) (a : Answer) : Type 0 where
-  pub at : ℕ
-  pub first : FirstAt test none xs at
-  pub names : a ≡ answer (i + at) (getD xs at none)
-
 pub failing-names :
     {A : Type 0} (none : A) (test : A → Bool) (answer : ℕ → A → Answer) (i : ℕ) (xs : List A) (a : Answer) →
-    firstFailing test answer i xs ≡ Verdict.Refused a → Named none test answer i xs a
+    firstFailing test answer i xs ≡ Verdict.Refused a → NamesFirst none test answer i xs a
 unfolding firstFailing
 failing-names none test answer i [] a h = let z : _≡_ {A = ℕ} 0 1 = cc in absurd (omega arith)
 failing-names none test answer i (x ∷ xs) a h = go (test x) refl (failing-names none test answer (i + 1) xs a) h
@@ -52,9 +47,9 @@ failing-names none test answer i (x ∷ xs) a h = go (test x) refl (failing-name
 
     go :
         (b : Bool) → test x ≡ b →
-        (firstFailing test answer (i + 1) xs ≡ Verdict.Refused a → Named none test answer (i + 1) xs a) →
+        (firstFailing test answer (i + 1) xs ≡ Verdict.Refused a → NamesFirst none test answer (i + 1) xs a) →
         orElse (must b (answer i x)) (firstFailing test answer (i + 1) xs) ≡ Verdict.Refused a →
-        Named none test answer i (x ∷ xs) a
+        NamesFirst none test answer i (x ∷ xs) a
     go false e ih h =
         let n : i ≡ i + 0 = omega arith in
         record {
@@ -126,10 +121,7 @@ module _ (head : Head) (table : List ℕ) (c : Call) where
       let n = failing-names nowhere _ _ 0 (sources (changesOf c)) a h in
       (n .at, n .first, n .names)
 
--- 7: all destinations of a list up to a place differ from each other
-abbrev pub Apart : List Numbered → ℕ → Type 0
-Apart ds n = (l m : ℕ) → l < m → m < n → twins ds l m ≡ false
-
+-- 7
 -- the destination at place n, behind the earlier ones
 module _ (all earlier : List Numbered) (d : Numbered) (ds : List Numbered) (e : all ≡ earlier ++ d ∷ ds) where
   at-earlier : (k : ℕ) → k < length earlier → getD all k nowhere ≡ getD earlier k nowhere
@@ -179,15 +171,9 @@ module _ (all earlier : List Numbered) (d : Numbered) (ds : List Numbered) (e : 
         n .names ∙ (λ k. Answer.Twice (sym (at-earlier (n .at) t) k .number) (sym at-here k .number)),
       )
 
-pub record Pair (ds : List Numbered) (a : Answer) : Type 0 where
-  pub i : ℕ
-  pub j : ℕ
-  pub first : FirstPair ds i j
-  pub names : a ≡ Answer.Twice (numberAt ds i) (numberAt ds j)
-
 twice-from :
     (all earlier ds : List Numbered) → all ≡ earlier ++ ds → Apart all (length earlier) →
-    (twiceFrom earlier ds ≡ Verdict.Passes → Apart all (length all)) × ((a : Answer) → twiceFrom earlier ds ≡ Verdict.Refused a → Pair all a)
+    (twiceFrom earlier ds ≡ Verdict.Passes → Apart all (length all)) × ((a : Answer) → twiceFrom earlier ds ≡ Verdict.Refused a → NamesPair all a)
 unfolding twiceFrom
 twice-from all earlier [] e f = (
   (λ h. let n : length all ≡ length earlier = ap length e ∙ (length-append earlier [] ∙ omega arith) in rw n f),
@@ -199,8 +185,8 @@ twice-from all earlier (d ∷ ds) e f =
   where
     go :
         (v : Verdict) → equalTo d earlier ≡ v →
-        (equalTo d earlier ≡ Verdict.Passes → (twiceFrom (earlier ++ d ∷ []) ds ≡ Verdict.Passes → Apart all (length all)) × ((a : Answer) → twiceFrom (earlier ++ d ∷ []) ds ≡ Verdict.Refused a → Pair all a)) →
-        (orElse v (twiceFrom (earlier ++ d ∷ []) ds) ≡ Verdict.Passes → Apart all (length all)) × ((a : Answer) → orElse v (twiceFrom (earlier ++ d ∷ []) ds) ≡ Verdict.Refused a → Pair all a)
+        (equalTo d earlier ≡ Verdict.Passes → (twiceFrom (earlier ++ d ∷ []) ds ≡ Verdict.Passes → Apart all (length all)) × ((a : Answer) → twiceFrom (earlier ++ d ∷ []) ds ≡ Verdict.Refused a → NamesPair all a)) →
+        (orElse v (twiceFrom (earlier ++ d ∷ []) ds) ≡ Verdict.Passes → Apart all (length all)) × ((a : Answer) → orElse v (twiceFrom (earlier ++ d ∷ []) ds) ≡ Verdict.Refused a → NamesPair all a)
     go Verdict.Passes h ih = ih h
     go (Verdict.Refused b) h ih = (
       (λ k. let z : _≡_ {A = ℕ} 0 1 = cc in absurd (omega arith)),
@@ -210,7 +196,7 @@ twice-from all earlier (d ∷ ds) e f =
     )
 
 module _ (c : Call) where
-  both-ways : (twiceFrom [] (destinations (changesOf c)) ≡ Verdict.Passes → Apart (destinations (changesOf c)) (length (destinations (changesOf c)))) × ((a : Answer) → twiceFrom [] (destinations (changesOf c)) ≡ Verdict.Refused a → Pair (destinations (changesOf c)) a)
+  both-ways : (twiceFrom [] (destinations (changesOf c)) ≡ Verdict.Passes → Apart (destinations (changesOf c)) (length (destinations (changesOf c)))) × ((a : Answer) → twiceFrom [] (destinations (changesOf c)) ≡ Verdict.Refused a → NamesPair (destinations (changesOf c)) a)
   both-ways = twice-from (destinations (changesOf c)) [] (destinations (changesOf c)) refl λ l m x y. absurd (omega arith)
 
   -- upstream's unique_destinations
@@ -218,7 +204,7 @@ module _ (c : Call) where
   unfolding twiceCheck
   twice-passes h = both-ways .0 h
 
-  pub twice-names : (a : Answer) → twiceCheck c ≡ Verdict.Refused a → Pair (destinations (changesOf c)) a
+  pub twice-names : (a : Answer) → twiceCheck c ≡ Verdict.Refused a → NamesPair (destinations (changesOf c)) a
   unfolding twiceCheck
   twice-names a h = both-ways .1 a h
 
@@ -251,11 +237,6 @@ Fine cs ns i = (recordable cs (getD ns i 0) ≡ true) × (Repeated ns i → ⊥)
 
 abbrev AllFine : List Change → List ℕ → ℕ → Type 0
 AllFine cs ns k = (i : ℕ) → i < k → Fine cs ns i
-
-pub record BadPlace (cs : List Change) (ns : List ℕ) (a : Answer) : Type 0 where
-  pub at : ℕ
-  pub first : FirstBad cs ns at
-  pub names : a ≡ Answer.Record at
 
 -- the number at place `length pre`, behind those before it, of which `earlier` keeps the tally
 module _ (cs : List Change) (all pre : List ℕ) (n : ℕ) (ns earlier : List ℕ) (e : all ≡ pre ++ n ∷ ns) (f : (m : ℕ) → among m earlier ≡ among m pre) where
@@ -305,7 +286,7 @@ module _ (cs : List Change) (all pre : List ℕ) (n : ℕ) (ns earlier : List �
 record-from :
     (cs : List Change) (all pre ns earlier : List ℕ) → all ≡ pre ++ ns → ((m : ℕ) → among m earlier ≡ among m pre) →
     AllFine cs all (length pre) →
-    (recordFrom (length pre) cs earlier ns ≡ Verdict.Passes → AllFine cs all (length all)) × ((a : Answer) → recordFrom (length pre) cs earlier ns ≡ Verdict.Refused a → BadPlace cs all a)
+    (recordFrom (length pre) cs earlier ns ≡ Verdict.Passes → AllFine cs all (length all)) × ((a : Answer) → recordFrom (length pre) cs earlier ns ≡ Verdict.Refused a → NamesBad cs all a)
 unfolding recordFrom
 record-from cs all pre [] earlier e f g = (
   (λ h. let n : length all ≡ length pre = ap length e ∙ (length-append pre [] ∙ omega arith) in rw n g),
@@ -319,7 +300,7 @@ record-from cs all pre (n ∷ ns) earlier e f g =
     (fine-more cs all pre n ns earlier e f g (and-left (recordable cs n) (not (among n earlier)) h) (not-true (among n earlier) (and-right (recordable cs n) (not (among n earlier)) h)))))
   where
     Both : Verdict → Type 0
-    Both v = (v ≡ Verdict.Passes → AllFine cs all (length all)) × ((a : Answer) → v ≡ Verdict.Refused a → BadPlace cs all a)
+    Both v = (v ≡ Verdict.Passes → AllFine cs all (length all)) × ((a : Answer) → v ≡ Verdict.Refused a → NamesBad cs all a)
 
     go :
         (b : Bool) → (recordable cs n && not (among n earlier)) ≡ b →
@@ -336,7 +317,7 @@ record-from cs all pre (n ∷ ns) earlier e f g =
         same-refusal {a} k = cc
 
 module _ (c : Call) where
-  record-both : (recordFrom 0 (changesOf c) [] (c .recordList) ≡ Verdict.Passes → AllFine (changesOf c) (c .recordList) (length (c .recordList))) × ((a : Answer) → recordFrom 0 (changesOf c) [] (c .recordList) ≡ Verdict.Refused a → BadPlace (changesOf c) (c .recordList) a)
+  record-both : (recordFrom 0 (changesOf c) [] (c .recordList) ≡ Verdict.Passes → AllFine (changesOf c) (c .recordList) (length (c .recordList))) × ((a : Answer) → recordFrom 0 (changesOf c) [] (c .recordList) ≡ Verdict.Refused a → NamesBad (changesOf c) (c .recordList) a)
   record-both = record-from (changesOf c) (c .recordList) [] (c .recordList) [] refl (λ m. refl) λ i h. absurd (omega arith)
 
   -- upstream's valid_indices
@@ -346,6 +327,59 @@ module _ (c : Call) where
   unfolding recordCheck
   record-passes h = record-both .0 h
 
-  pub record-names : (a : Answer) → recordCheck c ≡ Verdict.Refused a → BadPlace (changesOf c) (c .recordList) a
+  pub record-names : (a : Answer) → recordCheck c ≡ Verdict.Refused a → NamesBad (changesOf c) (c .recordList) a
   unfolding recordCheck
   record-names a h = record-both .1 a h
+
+-- a pair is held exactly if some guard is that pair
+pub held-at :
+    (binding key : ℕ) (gs : List Guard) → held binding key gs ≡ true → Holder binding key gs
+unfolding held
+held-at binding key [] h = absurd (clash false h refl)
+held-at binding key (g ∷ gs) h = go (eqb binding (g .binding) && eqb key (g .key)) refl (held-at binding key gs) h
+  where
+    go :
+        (b : Bool) → (eqb binding (g .binding) && eqb key (g .key)) ≡ b → (held binding key gs ≡ true → Holder binding key gs) →
+        (b || held binding key gs) ≡ true → Holder binding key (g ∷ gs)
+    go true e ih k =
+        record {
+          at = 0;
+          there = omega arith;
+          bindings = sym (eqb-true binding (g .binding) (and-left (eqb binding (g .binding)) (eqb key (g .key)) e));
+          keys = sym (eqb-true key (g .key) (and-right (eqb binding (g .binding)) (eqb key (g .key)) e));
+        }
+    go false e ih k =
+        let r = ih k in
+        record { at = suc (r .at); there = (let t = r .there in omega arith); bindings = r .bindings; keys = r .keys }
+
+pub at-held :
+    (binding key : ℕ) (gs : List Guard) (i : ℕ) → i < length gs → getD gs i noGuard .binding ≡ binding →
+    getD gs i noGuard .key ≡ key → held binding key gs ≡ true
+unfolding held
+at-held binding key [] i l b k = absurd (omega arith)
+at-held binding key (g ∷ gs) zero l b k = rw (eq-eqb binding (g .binding) (sym b), eq-eqb key (g .key) (sym k))
+at-held binding key (g ∷ gs) (suc i) l b k = rw (at-held binding key gs i (omega arith) b k) (or-true (eqb binding (g .binding) && eqb key (g .key)))
+
+-- of a list of checks the first that refuses gives the answer
+pub refused-at : (vs : List Verdict) (a : Answer) → firstRefusal vs ≡ Verdict.Refused a → RefusedAt vs a
+unfolding firstRefusal
+refused-at [] a h = let z : _≡_ {A = ℕ} 0 1 = cc in absurd (omega arith)
+refused-at (v ∷ vs) a h = go v (refused-at vs a) h
+  where
+    go : (w : Verdict) → (firstRefusal vs ≡ Verdict.Refused a → RefusedAt vs a) → orElse w (firstRefusal vs) ≡ Verdict.Refused a → RefusedAt (w ∷ vs) a
+    go (Verdict.Refused b) ih k =
+        record { at = 0; there = omega arith; refuses = k; before = λ i l. absurd (omega arith) }
+    go Verdict.Passes ih k =
+        let r = ih k in
+        record {
+          at = suc (r .at);
+          there = (let t = r .there in omega arith);
+          refuses = r .refuses;
+          before = earlier (r .at) (r .before);
+        }
+      where
+        earlier :
+            (m : ℕ) → ((i : ℕ) → i < m → getD vs i Verdict.Passes ≡ Verdict.Passes) → (i : ℕ) → i < suc m →
+            getD (Verdict.Passes ∷ vs) i Verdict.Passes ≡ Verdict.Passes
+        earlier m f zero l = refl
+        earlier m f (suc i) l = f i (omega arith)

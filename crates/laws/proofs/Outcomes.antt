@@ -15,7 +15,7 @@ use Rattle.rules.specs.Orders.{Numbered, destinations, sources, numbersOf, reco
 use Rattle.rules.specs.Answers.{isAccepted, poisons}
 use Rattle.rules.specs.Checks.{Call, changesOf, prepareChecks, rollbackChecks, removalChecks, publishChecks}
 use Rattle.rules.specs.Publication.{Undone, undoing, Stage, removing, rolledBack, thenSources}
-use Rattle.rules.specs.Calls.{Outcome, asBefore, decided, shown, written, recordAfter, prepared, prepareOf, rollbackOf, removalOf, publishOf}
+use Rattle.rules.specs.Calls.{headWith, Outcome, asBefore, decided, shown, written, recordAfter, prepared, prepareOf, rollbackOf, removalOf, publishOf}
 use Rattle.laws.specs.Words.{added, takenAway, numberAt}
 use Rattle.laws.proofs.Flat.{well-formed-parts, used-postings, laid-out-same}
 use Rattle.laws.proofs.Undo.{UndoClean, UndoFailed, undo-runs}
@@ -32,7 +32,7 @@ shown-same head table list s a h e n k =
     let u : length (s .postings) ≡ head .used = ap length k ∙ used-postings head table w in
     let t : laidOut (length table) (s .postings) ≡ table = ap (laidOut (length table)) k ∙ laid-out-same head table w in
     let p : cond (poisons (s .answer)) 1 (head .poisoned) ≡ head .poisoned = rw (e, n) in
-    λ i. record { answer = e i; head = record { bindings = head .bindings; used = u i; poisoned = p i }; table = t i; recordList = list }
+    λ i. record { answer = e i; head = headWith head (u i) (p i); table = t i; recordList = list }
 
 pub cause-poisons-not : (byte used size change : ℕ) (why : Answer) → Cause byte used size change why → poisons why ≡ false
 cause-poisons-not byte used size change why (store h) = refl

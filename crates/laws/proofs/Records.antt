@@ -82,19 +82,6 @@ rising-from i (c ∷ cs) = go (destinationOf c) (rising-from (i + 1) cs)
 pub rising-numbers : (cs : List Change) → rising 0 (numbersOf (destinations cs)) ≡ true
 rising-numbers cs = rising-from 0 cs
 
--- there are no more than changes
-length-named : (i : ℕ) (c : Change) (k : Key) (ds : List Numbered) → length (named i c k ds) ≤ suc (length ds)
-length-named i c Key.Missing ds = omega arith
-length-named i c (Key.Named key) ds = omega arith
-
-pub length-destinations : (i : ℕ) (cs : List Change) → length (destinationsFrom i cs) ≤ length cs
-unfolding destinationsFrom
-length-destinations i [] = omega arith
-length-destinations i (c ∷ cs) =
-    let h = length-named i c (destinationOf c) (destinationsFrom (i + 1) cs) in
-    let k = length-destinations (i + 1) cs in
-    omega arith
-
 -- a number is in it exactly if its change has a destination
 among-below : (j low : ℕ) (ns : List ℕ) → j < low → rising low ns ≡ true → among j ns ≡ false
 unfolding among rising

@@ -8,11 +8,11 @@ use Rattle.rules.specs.Postings.{every, compared, isBefore, isSame, same, chain
 use Rattle.laws.proofs.Tests.{clash, and-left, and-right, both, by-cases, neither}
 use Rattle.laws.proofs.Ranks.{compared-same, is-before, after-before, before-before, same-equal, same-self}
 
-chain-before : (p q : Posting) (qs : List Posting) → chain p (q ∷ qs) ≡ true → compared p q ≡ Order.Before
+pub chain-before : (p q : Posting) (qs : List Posting) → chain p (q ∷ qs) ≡ true → compared p q ≡ Order.Before
 unfolding chain
 chain-before p q qs h = is-before (compared p q) (and-left (isBefore (compared p q)) (chain q qs) h)
 
-chain-rest : (p q : Posting) (qs : List Posting) → chain p (q ∷ qs) ≡ true → chain q qs ≡ true
+pub chain-rest : (p q : Posting) (qs : List Posting) → chain p (q ∷ qs) ≡ true → chain q qs ≡ true
 unfolding chain
 chain-rest p q qs h = and-right (isBefore (compared p q)) (chain q qs) h
 
@@ -20,7 +20,7 @@ chain-cons : (p q : Posting) (qs : List Posting) → compared p q ≡ Order.Befo
 unfolding chain
 chain-cons p q qs e h = both (isBefore (compared p q)) (chain q qs) (ap isBefore e) h
 
-chain-skip : (p q : Posting) (l : List Posting) → compared p q ≡ Order.Before → chain q l ≡ true → chain p l ≡ true
+pub chain-skip : (p q : Posting) (l : List Posting) → compared p q ≡ Order.Before → chain q l ≡ true → chain p l ≡ true
 unfolding chain
 chain-skip p q [] e h = refl
 chain-skip p q (x ∷ xs) e h =

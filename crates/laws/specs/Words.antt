@@ -29,9 +29,13 @@ unfoldable pub rising : ℕ → List ℕ → Bool
 rising low [] = true
 rising low (n ∷ ns) = leb low n && rising (n + 1) ns
 
+-- no destination or source: what stands past the end of their lists
+abbrev pub nowhere : Numbered
+nowhere = record { number = 0; posting = record { binding = 0; key = 0; row = 0 } }
+
 -- the change number of the destination or source at a place of its list
 abbrev pub numberAt : List Numbered → ℕ → ℕ
-numberAt ds k = getD ds k (record { number = 0; posting = record { binding = 0; key = 0; row = 0 } }) .number
+numberAt ds k = getD ds k nowhere .number
 
 -- every byte from one place up to another is 0
 abbrev pub Quiet : List ℕ → ℕ → ℕ → Type 0

@@ -25,13 +25,18 @@ pub record Outcome : Type 0 where
 abbrev pub asBefore : Head → List ℕ → List ℕ → Answer → Outcome
 asBefore head table list a = record { answer = a; head = head; table = table; recordList = list }
 
+-- the refusal, or else the work
 abbrev pub decided : Verdict → (Answer → Outcome) → Outcome → Outcome
 decided Verdict.Passes refusal work = work
 decided (Verdict.Refused a) refusal work = refusal a
 
+-- a head with another used and flag
+abbrev pub headWith : Head → ℕ → ℕ → Head
+headWith head used poisoned = record { bindings = head .bindings; used = used; poisoned = poisoned }
+
 -- the head beside these postings; 12 and 13 set its poison flag
 abbrev pub headAfter : Head → Answer → List Posting → Head
-headAfter head a ps = record { bindings = head .bindings; used = length ps; poisoned = cond (poisons a) 1 (head .poisoned) }
+headAfter head a ps = headWith head (length ps) (cond (poisons a) 1 (head .poisoned))
 
 -- a stage's postings shown in the lent table, with the head and the record list that go with them
 abbrev pub shown : Head → List ℕ → List ℕ → Stage → Outcome
@@ -57,11 +62,13 @@ module _ (head : Head) (table : List ℕ) (c : Call) where
   prepared =
       preparing (capacity table) (c .strip) (destinations (changesOf c)) [] 0 (postings (head .used) table)
 
+  -- prepare_index_destinations
   unfoldable pub prepareOf : Outcome
   prepareOf =
       decided (prepareChecks head table c) (asBefore head table (c .recordList))
       (shown head table (recordAfter prepared (destinations (changesOf c)) (c .recordList)) prepared)
 
+  -- rollback_index_destinations: over its record from the end to the start
   unfoldable pub rollbackOf : Outcome
   rollbackOf =
       decided (rollbackChecks head table c) (asBefore head table (c .recordList))
@@ -70,19 +77,21 @@ module _ (head : Head) (table : List ℕ) (c : Call) where
       (undoing (c .strip) (reverse (recorded (changesOf c) (c .recordList))) Verdict.Passes 0
       (postings (head .used) table))))
 
+  -- remove_index_sources
   unfoldable pub removalOf : Outcome
   removalOf =
       decided (removalChecks head table c) (asBefore head table (c .recordList))
       (shown head table (c .recordList)
       (removing (c .strip) (Answer.Accepted 0) (sources (changesOf c)) 0 (postings (head .used) table)))
 
+  -- publish: prepare, then source removal
   unfoldable pub publishOf : Outcome
   publishOf =
       decided (publishChecks head table c) (asBefore head table (c .recordList))
       (shown head table (recordAfter prepared (destinations (changesOf c)) (c .recordList))
       (thenSources (c .strip) (sources (changesOf c)) prepared))
 
--- how many postings a binding and key have; an absent key has 0
+-- count: how many postings a binding and key have; an absent key has 0
 unfoldable pub countOf : Head → List ℕ → ℕ → ℕ → Answer
 countOf head table binding key =
     settled (countChecks head table binding) (Answer.Accepted (counted binding key (postings (head .used) table)))

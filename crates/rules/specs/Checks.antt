@@ -21,6 +21,7 @@ pub record Call : Type 0 where
   pub strip : List ℕ
   pub recordList : List ℕ
 
+-- the changes that its change list means
 abbrev pub changesOf : Call → List Change
 changesOf c = changes (c .changeList)
 
@@ -34,6 +35,7 @@ abbrev pub orElse : Verdict → Verdict → Verdict
 orElse Verdict.Passes v = v
 orElse (Verdict.Refused a) v = Verdict.Refused a
 
+-- the first of the verdicts that refuses
 unfoldable pub firstRefusal : List Verdict → Verdict
 firstRefusal [] = Verdict.Passes
 firstRefusal (v ∷ vs) = orElse v (firstRefusal vs)
@@ -78,11 +80,12 @@ unfoldable pub guardCheck : Head → Call → Verdict
 guardCheck head c =
     firstFailing (guarded (head .bindings) (guards (c .guardList))) (λ i change. Answer.Guard i) 0 (changesOf c)
 
--- a number of a record means a destination: it is below the change count and its after is not none
+-- there is a key
 abbrev pub isNamed : Key → Bool
 isNamed Key.Missing = false
 isNamed (Key.Named key) = true
 
+-- a number of a record means a destination: it is below the change count, and its after is not none
 unfoldable pub recordable : List Change → ℕ → Bool
 recordable cs n = ltb n (length cs) && isNamed (destinationOf (getD cs n noChange))
 
@@ -91,12 +94,13 @@ unfoldable pub among : ℕ → List ℕ → Bool
 among n [] = false
 among n (m ∷ ms) = eqb n m || among n ms
 
--- 14 RECORD: the first place that means no destination, or whose number is already at an earlier place
+-- the first place that means no destination, or whose number is already at an earlier place
 unfoldable pub recordFrom : ℕ → List Change → List ℕ → List ℕ → Verdict
 recordFrom place cs earlier [] = Verdict.Passes
 recordFrom place cs earlier (n ∷ ns) =
     orElse (must (recordable cs n && not (among n earlier)) (Answer.Record place)) (recordFrom (place + 1) cs (n ∷ earlier) ns)
 
+-- 14 RECORD: the first bad place
 unfoldable pub recordCheck : Call → Verdict
 recordCheck c = recordFrom 0 (changesOf c) [] (c .recordList)
 
@@ -105,11 +109,12 @@ unfoldable pub equalTo : Numbered → List Numbered → Verdict
 equalTo d earlier =
     firstFailing (λ (e : Numbered). not (same (e .posting) (d .posting))) (λ i e. Answer.Twice (e .number) (d .number)) 0 earlier
 
--- 7 TWICE: each destination in turn (j) beside those before it, from the first on (i)
+-- each destination in turn (j) beside those before it, from the first on (i)
 unfoldable pub twiceFrom : List Numbered → List Numbered → Verdict
 twiceFrom earlier [] = Verdict.Passes
 twiceFrom earlier (d ∷ ds) = orElse (equalTo d earlier) (twiceFrom (earlier ++ d ∷ []) ds)
 
+-- 7 TWICE: the first equal pair in order of j, then i
 unfoldable pub twiceCheck : Call → Verdict
 twiceCheck c = twiceFrom [] (destinations (changesOf c))
 
@@ -129,7 +134,7 @@ overlapCheck c =
     0
     (sources (changesOf c))
 
--- the checks of each call, in their order
+-- the checks of each call, in their order: prepare 1 to 8
 unfoldable pub prepareChecks : Head → List ℕ → Call → Verdict
 prepareChecks head table c =
     firstRefusal
@@ -143,6 +148,7 @@ prepareChecks head table c =
     ∷ presentCheck head table c
     ∷ [])
 
+-- rollback 1 to 4, 6, 14
 unfoldable pub rollbackChecks : Head → List ℕ → Call → Verdict
 rollbackChecks head table c =
     firstRefusal
@@ -154,11 +160,13 @@ rollbackChecks head table c =
     ∷ recordCheck c
     ∷ [])
 
+-- removal 1 to 4, 6
 unfoldable pub removalChecks : Head → List ℕ → Call → Verdict
 removalChecks head table c =
     firstRefusal
     (tableCheck head table ∷ poisonCheck head ∷ listCheck c ∷ stripCheck c ∷ guardCheck head c ∷ [])
 
+-- publish 1 to 9
 unfoldable pub publishChecks : Head → List ℕ → Call → Verdict
 publishChecks head table c =
     firstRefusal
@@ -173,7 +181,7 @@ publishChecks head table c =
     ∷ overlapCheck c
     ∷ [])
 
--- 6 of a count asks its binding alone, and names 0
+-- count 1, 2 and 6, which asks its binding alone and names 0
 unfoldable pub countChecks : Head → List ℕ → ℕ → Verdict
 countChecks head table binding =
     firstRefusal

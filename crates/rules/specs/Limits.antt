@@ -5,14 +5,18 @@ use Prim.Native.Nat.{ℕ}
 abbrev pub mostNumbers : ℕ
 mostNumbers = 12288
 
+-- bindings of a head
 abbrev pub mostBindings : ℕ
 mostBindings = 64
 
+-- changes of a list
 abbrev pub mostChanges : ℕ
 mostChanges = 256
 
+-- guards, two numbers to each
 abbrev pub mostGuards : ℕ
 mostGuards = 1024
 
+-- bytes of a strip
 abbrev pub mostBytes : ℕ
 mostBytes = 1024

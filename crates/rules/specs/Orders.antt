@@ -47,7 +47,7 @@ guards [] = []
 guards (binding ∷ []) = []
 guards (binding ∷ key ∷ rest) = record { binding = binding; key = key } ∷ guards rest
 
--- well formed and at most 256 changes; whole pairs and at most 1,024 guards
+-- a well-formed change list and whole pairs of guard numbers, neither over its limit
 unfoldable pub properLists : List ℕ → List ℕ → Bool
 properLists cs gs =
     properChanges cs && leb (length (changes cs)) mostChanges && eqb (length gs % 2) 0 && leb (length (guards gs)) mostGuards
@@ -57,7 +57,7 @@ unfoldable pub held : ℕ → ℕ → List Guard → Bool
 held binding key [] = false
 held binding key (g ∷ gs) = (eqb binding (g .binding) && eqb key (g .key)) || held binding key gs
 
--- at most 1,024 bytes, none above 2
+-- not over its limit, and no byte above 2
 unfoldable pub properStrip : List ℕ → Bool
 properStrip strip = leb (length strip) mostBytes && every (λ byte. leb byte 2) strip
 
@@ -65,10 +65,11 @@ properStrip strip = leb (length strip) mostBytes && every (λ byte. leb byte 2) 
 abbrev pub byteAt : List ℕ → ℕ → ℕ
 byteAt strip read = getD strip read 0
 
--- where a change brings its row, and whence it takes it
+-- where a change brings its row
 abbrev pub destinationOf : Change → Key
 destinationOf c = c .after
 
+-- whence it takes it
 abbrev pub sourceOf : Change → Key
 sourceOf c = c .before
 
@@ -83,22 +84,25 @@ named i c Key.Missing others = others
 named i c (Key.Named key) others =
     record { number = i; posting = record { binding = c .binding; key = key; row = c .row } } ∷ others
 
--- destinations and sources of the changes, which are numbered from i on
+-- the destinations of changes that are numbered from i on
 unfoldable pub destinationsFrom : ℕ → List Change → List Numbered
 destinationsFrom i [] = []
 destinationsFrom i (c ∷ cs) = named i c (destinationOf c) (destinationsFrom (i + 1) cs)
 
+-- and their sources
 unfoldable pub sourcesFrom : ℕ → List Change → List Numbered
 sourcesFrom i [] = []
 sourcesFrom i (c ∷ cs) = named i c (sourceOf c) (sourcesFrom (i + 1) cs)
 
--- the first change is number 0
+-- the destinations of a list, whose first change is number 0
 abbrev pub destinations : List Change → List Numbered
 destinations cs = destinationsFrom 0 cs
 
+-- and its sources
 abbrev pub sources : List Change → List Numbered
 sources cs = sourcesFrom 0 cs
 
+-- the postings without their numbers
 abbrev pub postingsOf : List Numbered → List Posting
 postingsOf ds = map (λ (d : Numbered). d .posting) ds
 

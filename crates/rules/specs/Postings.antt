@@ -1,7 +1,8 @@
 -- Lists of postings: their order, and what it means to stand in a list, to be inserted, removed and counted.
-use Prim.Native.Nat.{ℕ, suc}
+use Prim.Native.Nat.{ℕ}
 use mathlib.Core.List.{List, [], _∷_}
 use mathlib.Core.Bool.{Bool, true, false, cond, _&&_, _||_}
+use lib.ListN.{length}
 use lib.Dec.{eqb, ltb}
 use Rattle.rules.specs.declared.Posting.{Posting}
 use Rattle.rules.specs.declared.Order.{Order}
@@ -20,16 +21,19 @@ unfoldable pub compared : Posting → Posting → Order
 compared p q =
     ranked (p .binding) (q .binding) (ranked (p .key) (q .key) (ranked (p .row) (q .row) Order.Same))
 
+-- the first stands before the second
 abbrev pub isBefore : Order → Bool
 isBefore Order.Before = true
 isBefore Order.Same = false
 isBefore Order.After = false
 
+-- the two are one
 abbrev pub isSame : Order → Bool
 isSame Order.Before = false
 isSame Order.Same = true
 isSame Order.After = false
 
+-- one and the same posting
 unfoldable pub same : Posting → Posting → Bool
 same p q = isSame (compared p q)
 
@@ -64,11 +68,15 @@ unfoldable pub removed : Posting → List Posting → List Posting
 removed p [] = []
 removed p (q ∷ qs) = cond (same p q) (removed p qs) (q ∷ removed p qs)
 
--- the number of postings with a binding and key
-unfoldable pub counted : ℕ → ℕ → List Posting → ℕ
-counted binding key [] = 0
-counted binding key (q ∷ qs) =
-    cond (eqb binding (q .binding) && eqb key (q .key)) (suc (counted binding key qs)) (counted binding key qs)
+-- the rows of the postings with a binding and key, in their order
+unfoldable pub bucket : ℕ → ℕ → List Posting → List ℕ
+bucket binding key [] = []
+bucket binding key (q ∷ qs) =
+    cond (eqb binding (q .binding) && eqb key (q .key)) (q .row ∷ bucket binding key qs) (bucket binding key qs)
+
+-- how many there are
+abbrev pub counted : ℕ → ℕ → List Posting → ℕ
+counted binding key ps = length (bucket binding key ps)
 
 -- its binding is below the count
 unfoldable pub within : ℕ → Posting → Bool

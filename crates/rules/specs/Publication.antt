@@ -36,6 +36,7 @@ abbrev pub whyNot : Verdict → Answer → ℕ → Answer
 whyNot Verdict.Passes why change = why
 whyNot (Verdict.Refused last) why change = Answer.Undo change
 
+-- that answer, with what the undo left
 abbrev pub notInserted : Answer → ℕ → Undone → Stage
 notInserted why change u = record { answer = whyNot (u .verdict) why change; postings = u .postings; read = u .read }
 
@@ -62,7 +63,7 @@ removing strip clear (d ∷ ds) read ps =
     (record { answer = Answer.Source (d .number); postings = r .postings; read = read + 1 })
     (removing strip clear ds (read + 1) (r .postings))
 
--- rollback, over its record from the end to the start
+-- rollback: accepted where no removal failed, else 12 with the last change whose removal did
 abbrev pub rolledBack : Undone → Stage
 rolledBack u = record { answer = settled (u .verdict) (Answer.Accepted 0); postings = u .postings; read = u .read }
 

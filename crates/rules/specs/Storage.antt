@@ -8,6 +8,7 @@ use Rattle.rules.specs.declared.Posting.{Posting}
 use Rattle.rules.specs.declared.Fault.{Fault}
 use Rattle.rules.specs.Postings.{inserted, removed}
 
+-- what an insertion met, and the postings that it left
 pub record Insertion : Type 0 where
   pub fault : Fault
   pub postings : List Posting
@@ -21,6 +22,7 @@ insertion byte capacity p ps =
     (record { fault = Fault.Full; postings = ps }))
     (record { fault = Fault.Store; postings = ps })
 
+-- whether a removal failed, and the postings that it left
 pub record Removal : Type 0 where
   pub failed : Bool
   pub postings : List Posting

@@ -16,6 +16,7 @@ cells (binding ∷ []) = []
 cells (binding ∷ key ∷ []) = []
 cells (binding ∷ key ∷ row ∷ rest) = record { binding = binding; key = key; row = row } ∷ cells rest
 
+-- how many postings a table has room for
 abbrev pub capacity : List ℕ → ℕ
 capacity table = length table / 3
 
@@ -32,17 +33,22 @@ numbers (p ∷ ps) = p .binding ∷ p .key ∷ p .row ∷ numbers ps
 abbrev pub laidOut : ℕ → List Posting → List ℕ
 laidOut size ps = numbers ps ++ replicate (size - length ps * 3) 0
 
+-- every test passes
 unfoldable pub allOf : List Bool → Bool
 allOf [] = true
 allOf (b ∷ bs) = b && allOf bs
 
--- the limits hold; used ≤ capacity; postings strictly ascending; each binding below the count; every number past used is 0
+-- a length that is a multiple of 3 and within its limit, and a binding count within its own
+unfoldable pub limitsHold : Head → List ℕ → Bool
+limitsHold head table =
+    allOf (eqb (length table % 3) 0 ∷ leb (length table) mostNumbers ∷ leb (head .bindings) mostBindings ∷ [])
+
+-- the limits hold; the flag is 0 or 1; used ≤ capacity; postings strictly ascending; each binding below the count; every number
+-- past used is 0
 unfoldable pub wellFormed : Head → List ℕ → Bool
 wellFormed head table =
     allOf
-    (eqb (length table % 3) 0
-    ∷ leb (length table) mostNumbers
-    ∷ leb (head .bindings) mostBindings
+    (limitsHold head table
     ∷ leb (head .poisoned) 1
     ∷ leb (head .used) (capacity table)
     ∷ ascending (postings (head .used) table)

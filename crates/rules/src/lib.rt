@@ -65,7 +65,7 @@ pub enum Answer {
     Strip,
     // 5: the record list is shorter than the change list.
     Room,
-    // 6, with the first change whose binding is not below the count, or with a key that isn't held.
+    // 6, with the first change whose binding is not below the count, or one of whose keys isn't held.
     Guard(u32),
     // 7, with the two changes, the lower first, that have one destination.
     Twice(u32, u32),

@@ -1,0 +1,116 @@
+-- The rows under a binding and key: a row is among them exactly if its posting stands in the list, and in an ascending list
+-- they ascend. So their number is the number of such postings.
+use Prim.Native.Nat.{ℕ, _+_, _≤_, _<_}
+use native.Mathlib.Omega.{arith}
+use mathlib.Core.Path.{_≡_, refl, sym, ap, _∙_}
+use mathlib.Core.List.{List, [], _∷_}
+use mathlib.Core.Bool.{Bool, true, false, cond, _&&_, _||_}
+use lib.Dec.{eqb, leb}
+use borrow.Author.Tests.{eqb-true, eq-eqb, le-leb}
+use Rattle.rules.specs.declared.Posting.{Posting}
+use Rattle.rules.specs.declared.Order.{Order}
+use Rattle.rules.specs.Postings.{ranked, compared, same, chain, ascending, present, bucket}
+use Rattle.rules.specs.Checks.{among}
+use Rattle.laws.specs.Words.{rising}
+use Rattle.laws.proofs.Tests.{and-left, and-right, both, equal-tests}
+use Rattle.laws.proofs.Ranks.{Tri, less, equal, more, tri, ranked-equal, ranked-more, same-equal, same-self}
+use Rattle.laws.proofs.Sorted.{chain-before, chain-rest, chain-skip, ascending-rest}
+
+abbrev pub at : ℕ → ℕ → ℕ → Posting
+at binding key row = record { binding = binding; key = key; row = row }
+
+-- two postings are one exactly if their numbers are
+same-numbers :
+    (binding key row : ℕ) (q : Posting) →
+    same (at binding key row) q ≡ ((eqb binding (q .binding) && eqb key (q .key)) && eqb row (q .row))
+same-numbers binding key row q =
+    equal-tests (same (at binding key row) q) ((eqb binding (q .binding) && eqb key (q .key)) && eqb row (q .row)) there back
+  where
+    there : same (at binding key row) q ≡ true → ((eqb binding (q .binding) && eqb key (q .key)) && eqb row (q .row)) ≡ true
+    there h =
+        let e = same-equal (at binding key row) q h in
+        both (eqb binding (q .binding) && eqb key (q .key)) (eqb row (q .row))
+        (both (eqb binding (q .binding)) (eqb key (q .key)) (eq-eqb binding (q .binding) (ap (λ (p : Posting). p .binding) e))
+        (eq-eqb key (q .key) (ap (λ (p : Posting). p .key) e)))
+        (eq-eqb row (q .row) (ap (λ (p : Posting). p .row) e))
+
+    back : ((eqb binding (q .binding) && eqb key (q .key)) && eqb row (q .row)) ≡ true → same (at binding key row) q ≡ true
+    back h =
+        let x = and-left (eqb binding (q .binding) && eqb key (q .key)) (eqb row (q .row)) h in
+        let b = eqb-true binding (q .binding) (and-left (eqb binding (q .binding)) (eqb key (q .key)) x) in
+        let k = eqb-true key (q .key) (and-right (eqb binding (q .binding)) (eqb key (q .key)) x) in
+        let r = eqb-true row (q .row) (and-right (eqb binding (q .binding) && eqb key (q .key)) (eqb row (q .row)) h) in
+        rw (b, k, r) (same-self q)
+
+pub bucket-among :
+    (binding key row : ℕ) (ps : List Posting) → among row (bucket binding key ps) ≡ present (at binding key row) ps
+unfolding among bucket present
+bucket-among binding key row [] = refl
+bucket-among binding key row (q ∷ qs) =
+    go (eqb binding (q .binding) && eqb key (q .key)) refl (bucket-among binding key row qs)
+  where
+    go :
+        (b : Bool) → (eqb binding (q .binding) && eqb key (q .key)) ≡ b →
+        among row (bucket binding key qs) ≡ present (at binding key row) qs →
+        among row (cond b (q .row ∷ bucket binding key qs) (bucket binding key qs)) ≡
+        (same (at binding key row) q || present (at binding key row) qs)
+    go true e ih = rw (same-numbers binding key row q, e, ih)
+    go false e ih = rw (same-numbers binding key row q, e) ih
+
+-- of two postings of one binding and key the earlier has the lower row
+before-row :
+    (p q : Posting) → compared p q ≡ Order.Before → p .binding ≡ q .binding → p .key ≡ q .key → p .row < q .row
+unfolding compared
+before-row p q h b k = go (tri (p .row) (q .row))
+  where
+    rows : ranked (p .row) (q .row) Order.Same ≡ Order.Before
+    rows =
+        sym (ranked-equal (p .key) (q .key) _ k) ∙ (sym (ranked-equal (p .binding) (q .binding) _ b) ∙ h)
+
+    go : Tri (p .row) (q .row) → p .row < q .row
+    go (less l) = l
+    go (equal e) =
+        let z : _≡_ {A = ℕ} 0 1 = cc (ranked-equal (p .row) (q .row) Order.Same e, rows) in
+        absurd (omega arith)
+    go (more m) =
+        let z : _≡_ {A = ℕ} 0 1 = cc (ranked-more (p .row) (q .row) Order.Same m, rows) in
+        absurd (omega arith)
+
+rising-after :
+    (binding key : ℕ) (p : Posting) (ps : List Posting) → binding ≡ p .binding → key ≡ p .key → chain p ps ≡ true →
+    rising (p .row + 1) (bucket binding key ps) ≡ true
+unfolding bucket rising
+rising-after binding key p [] b k h = refl
+rising-after binding key p (q ∷ qs) b k h =
+    go (eqb binding (q .binding) && eqb key (q .key)) refl
+    (rising-after binding key p qs b k (chain-skip p q qs (chain-before p q qs h) (chain-rest p q qs h)))
+    (λ x y. rising-after binding key q qs x y (chain-rest p q qs h))
+  where
+    go :
+        (m : Bool) → (eqb binding (q .binding) && eqb key (q .key)) ≡ m → rising (p .row + 1) (bucket binding key qs) ≡ true →
+        (binding ≡ q .binding → key ≡ q .key → rising (q .row + 1) (bucket binding key qs) ≡ true) →
+        rising (p .row + 1) (cond m (q .row ∷ bucket binding key qs) (bucket binding key qs)) ≡ true
+    go true e skip next =
+        let x = eqb-true binding (q .binding) (and-left (eqb binding (q .binding)) (eqb key (q .key)) e) in
+        let y = eqb-true key (q .key) (and-right (eqb binding (q .binding)) (eqb key (q .key)) e) in
+        let l = before-row p q (chain-before p q qs h) (sym b ∙ x) (sym k ∙ y) in
+        both (leb (p .row + 1) (q .row)) (rising (q .row + 1) (bucket binding key qs)) (le-leb (p .row + 1) (q .row) (omega arith))
+        (next x y)
+    go false e skip next = skip
+
+pub bucket-rising :
+    (binding key : ℕ) (ps : List Posting) → ascending ps ≡ true → rising 0 (bucket binding key ps) ≡ true
+unfolding ascending bucket rising
+bucket-rising binding key [] h = refl
+bucket-rising binding key (q ∷ qs) h =
+    go (eqb binding (q .binding) && eqb key (q .key)) refl (bucket-rising binding key qs (ascending-rest q qs h))
+  where
+    go :
+        (m : Bool) → (eqb binding (q .binding) && eqb key (q .key)) ≡ m → rising 0 (bucket binding key qs) ≡ true →
+        rising 0 (cond m (q .row ∷ bucket binding key qs) (bucket binding key qs)) ≡ true
+    go true e ih =
+        let x = eqb-true binding (q .binding) (and-left (eqb binding (q .binding)) (eqb key (q .key)) e) in
+        let y = eqb-true key (q .key) (and-right (eqb binding (q .binding)) (eqb key (q .key)) e) in
+        both (leb 0 (q .row)) (rising (q .row + 1) (bucket binding key qs)) (le-leb 0 (q .row) (omega arith))
+        (rising-after binding key q qs x y h)
+    go false e ih = ih
