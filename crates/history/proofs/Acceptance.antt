@@ -3,7 +3,7 @@
 use Prim.Native.Nat.{ℕ, _+_, _≤_, _<_}
 use native.Mathlib.Nat.{zero-add}
 use native.Mathlib.Omega.{arith}
-use mathlib.Core.Path.{_≡_, refl, ap}
+use mathlib.Core.Path.{_≡_, refl, ap, sym, _∙_}
 use mathlib.Core.List.{List, []}
 use mathlib.Core.Bool.{true, false, not}
 use mathlib.Core.Logic.{_↔_, _⊎_, inl, inr, ⊎-elim}
@@ -11,12 +11,12 @@ use lib.ListN.{length}
 use Rattle.rules.specs.declared.Head.{Head}
 use Rattle.rules.specs.declared.Answer.{Answer}
 use Rattle.rules.specs.declared.Verdict.{Verdict}
-use Rattle.rules.specs.Postings.{ascending}
-use Rattle.rules.specs.Table.{capacity, postings, laidOut}
+use Rattle.rules.specs.Postings.{counted, ascending}
+use Rattle.rules.specs.Table.{postings, capacity, laidOut}
 use Rattle.rules.specs.Orders.{Numbered, byteAt, destinations, sources}
-use Rattle.rules.specs.Answers.{isAccepted}
-use Rattle.rules.specs.Checks.{Call, prepareChecks, rollbackChecks, removalChecks, publishChecks}
-use Rattle.rules.specs.Calls.{Outcome, prepared, prepareOf, rollbackOf, removalOf, publishOf}
+use Rattle.rules.specs.Answers.{settled, isAccepted}
+use Rattle.rules.specs.Checks.{countChecks, Call, prepareChecks, rollbackChecks, removalChecks, publishChecks}
+use Rattle.rules.specs.Calls.{countOf, Outcome, prepared, prepareOf, rollbackOf, removalOf, publishOf}
 use Rattle.laws.specs.Words.{added, takenAway, numberAt, Quiet, Noisy}
 use Rattle.laws.proofs.Tests.{clash}
 use Rattle.laws.proofs.Ranks.{Tri, less, equal, more, tri}
@@ -28,7 +28,7 @@ use Rattle.laws.proofs.Prepare.{Cause, TakenBack, LeftBehind}
 use Rattle.laws.proofs.Outcomes.{IsReady, IsStopped, start, going, leaving, recordedBack, stop-not-accepted, Published, published, Prepares, prepares, RollsBack, rolls-back, Removes, removes}
 use Rattle.laws.proofs.Outcomes as outcome
 use Rattle.laws.proofs.Sets.{present-said, said-list}
-use Rattle.history.specs.Acceptance.{Acceptable, Fails, Ends, RollbackEnds, RemovalEnds, Answered, PublishAnswers, PrepareAnswers, RollbackAnswers, RemovalAnswers, Leaves}
+use Rattle.history.specs.Acceptance.{Acceptable, Fails, Ends, RollbackEnds, RemovalEnds, Answered, PublishAnswers, PrepareAnswers, RollbackAnswers, RemovalAnswers, CountAnswers, Leaves}
 
 module _ (capacity used : ℕ) (strip : List ℕ) (ds ss : List Numbered) where
   -- the first insertion to fail is one
@@ -322,3 +322,23 @@ module _ (head : Head) (table : List ℕ) (c : Call) where
     where
       sorted : ascending (start head table c) ≡ true
       sorted = well-formed-parts head table (publish-clear head table c (k .passes) .formed) .sorted
+
+-- the answers of a count
+count-answered :
+    (head : Head) (table : List ℕ) (binding key : ℕ) → CountAnswers head table binding key (countOf head table binding key)
+unfolding countOf
+count-answered head table binding key = go (countChecks head table binding) refl
+  where
+    own : Answer
+    own = Answer.Accepted (counted binding key (postings (head .used) table))
+
+    go : (v : Verdict) → countChecks head table binding ≡ v → CountAnswers head table binding key (settled v own)
+    go Verdict.Passes e = Answered.ended e refl
+    go (Verdict.Refused a) e = Answered.refused e
+
+pub count-exactly :
+    (head : Head) (table : List ℕ) (binding key : ℕ) (a : Answer) →
+    (countOf head table binding key ≡ a) ↔ CountAnswers head table binding key a
+count-exactly head table binding key =
+    exactly (countChecks head table binding) _ (λ a b p q. p ∙ sym q) (countOf head table binding key)
+    (count-answered head table binding key)

@@ -26,7 +26,7 @@ use Rattle.laws.proofs.Sets.{present-said}
 use Rattle.laws.proofs.Rows.{bucket-among, bucket-rising}
 use Rattle.laws.proofs.Calls.{publish-as-before, publish-well-formed, publish-stable, publish-poisoned, count-poisoned}
 use Rattle.history.specs.Acceptance.{Acceptable}
-use Rattle.history.specs.History.{Index, published, countedIn, postingsIn, indexOf, after, outcomes, unbroken, accepted, acceptedOutcomes, said, saidOf, ownCount, holding, quiet, Holds, Alike, CountSaid, Right, Break, Withheld, RightOrWithheld}
+use Rattle.history.specs.History.{Index, published, countedIn, postingsIn, indexOf, after, outcomes, unbroken, accepted, acceptedOutcomes, said, saidOf, ownCount, holding, quiet, Holds, Alike, Right, Withheld, RightOrWithheld}
 use Rattle.history.proofs.Acceptance.{accepted-exactly, acceptable-outcome}
 
 -- well formed and unpoisoned: what every call but 12 and 13 leaves
@@ -102,7 +102,8 @@ unfolding unbroken
 unbroken-first x c cs h =
     not-true (poisons (published x c .answer)) (and-left (not (poisons (published x c .answer))) (unbroken (indexOf (published x c)) cs) h)
 
-unbroken-rest : (x : Index) (c : Call) (cs : List Call) → unbroken x (c ∷ cs) ≡ true → unbroken (indexOf (published x c)) cs ≡ true
+unbroken-rest :
+    (x : Index) (c : Call) (cs : List Call) → unbroken x (c ∷ cs) ≡ true → unbroken (indexOf (published x c)) cs ≡ true
 unfolding unbroken
 unbroken-rest x c cs h =
     and-right (not (poisons (published x c .answer))) (unbroken (indexOf (published x c)) cs) h

@@ -23,18 +23,8 @@ use Rattle.laws.proofs.Checks.{first-passes, rest-passes, cons-passes, none-lef
 use Rattle.laws.proofs.Calls.{prepare-well-formed, prepare-stable}
 use Rattle.laws.proofs.Records.{recorded-numbers, record-taken, added-back}
 use Rattle.laws.proofs.Outcomes.{RollsBack, rolls-back, undid, recordedBack}
-use Rattle.history.specs.Upstream.{postingsBefore, postingsLeft}
+use Rattle.history.specs.Upstream.{postingsBefore, postingsLeft, backOf}
 use Rattle.history.proofs.Upstream.{PreparedWell, prepare-accepted}
-
--- the rollback call for a prepare: the same changes and guards, and the part of the record list that was named
-abbrev pub backOf : Head → List ℕ → Call → List ℕ → Call
-backOf head table c strip =
-    record {
-      changeList = c .changeList;
-      guardList = c .guardList;
-      strip = strip;
-      recordList = take (length (destinations (changesOf c))) (prepareOf head table c .recordList);
-    }
 
 module _ (head : Head) (table : List ℕ) (c : Call) (strip : List ℕ) (ok : isAccepted (prepareOf head table c .answer) ≡ true) where
   well : PreparedWell head table c (prepareOf head table c)
@@ -44,7 +34,7 @@ module _ (head : Head) (table : List ℕ) (c : Call) (strip : List ℕ) (ok : is
   clear = prepare-clear head table c (well .passes)
 
   -- the part that is lent is the record itself
-  part-record : backOf head table c strip .recordList ≡ numbersOf (destinations (changesOf c))
+  part-record : backOf c (prepareOf head table c) strip .recordList ≡ numbersOf (destinations (changesOf c))
   part-record =
       ap (λ (o : Outcome). take (length (destinations (changesOf c))) (o .recordList)) (well .whole)
       ∙ take-at (numbersOf (destinations (changesOf c))) (drop (length (numbersOf (destinations (changesOf c)))) (c .recordList))
@@ -54,7 +44,7 @@ module _ (head : Head) (table : List ℕ) (c : Call) (strip : List ℕ) (ok : is
   healthy : prepareOf head table c .head .poisoned ≡ head .poisoned
   healthy = prepare-stable head table c .flag ∙ rw (well .named)
 
-  record-passes : recordCheck (backOf head table c strip) ≡ Verdict.Passes
+  record-passes : recordCheck (backOf c (prepareOf head table c) strip) ≡ Verdict.Passes
   unfolding recordCheck
   record-passes = rw part-record (record-taken (changesOf c))
 
@@ -66,23 +56,23 @@ module _ (head : Head) (table : List ℕ) (c : Call) (strip : List ℕ) (ok : is
   unfolding poisonCheck
   poison-passes = rw (eq-eqb (prepareOf head table c .head .poisoned) 0 (healthy ∙ clear .healthy))
 
-  list-passes : listCheck c ≡ Verdict.Passes → listCheck (backOf head table c strip) ≡ Verdict.Passes
+  list-passes : listCheck c ≡ Verdict.Passes → listCheck (backOf c (prepareOf head table c) strip) ≡ Verdict.Passes
   unfolding listCheck
   list-passes h = h
 
-  strip-passes : properStrip strip ≡ true → stripCheck (backOf head table c strip) ≡ Verdict.Passes
+  strip-passes : properStrip strip ≡ true → stripCheck (backOf c (prepareOf head table c) strip) ≡ Verdict.Passes
   unfolding stripCheck
   strip-passes h = rw h
 
   guard-passes :
       guardCheck head c ≡ Verdict.Passes →
-      guardCheck (prepareOf head table c .head) (backOf head table c strip) ≡ Verdict.Passes
+      guardCheck (prepareOf head table c .head) (backOf c (prepareOf head table c) strip) ≡ Verdict.Passes
   unfolding guardCheck
   guard-passes h = rw (prepare-stable head table c .bindings) h
 
   checks-pass :
       properStrip strip ≡ true → prepareChecks head table c ≡ Verdict.Passes →
-      rollbackChecks (prepareOf head table c .head) (prepareOf head table c .table) (backOf head table c strip) ≡ Verdict.Passes
+      rollbackChecks (prepareOf head table c .head) (prepareOf head table c .table) (backOf c (prepareOf head table c) strip) ≡ Verdict.Passes
   unfolding prepareChecks rollbackChecks
   checks-pass s h1 =
       let h3 = rest-passes _ _ (rest-passes _ _ h1) in
@@ -94,7 +84,7 @@ module _ (head : Head) (table : List ℕ) (c : Call) (strip : List ℕ) (ok : is
       (cons-passes _ _ (guard-passes (first-passes _ _ h6)) (cons-passes _ _ record-passes none-left)))))
 
   -- what the rollback undoes, and what that leaves
-  undoes : recordedBack (prepareOf head table c .head) (prepareOf head table c .table) (backOf head table c strip) ≡ reverse (destinations (changesOf c))
+  undoes : recordedBack (prepareOf head table c .head) (prepareOf head table c .table) (backOf c (prepareOf head table c) strip) ≡ reverse (destinations (changesOf c))
   undoes = ap (λ l. reverse (recorded (changesOf c) l)) part-record ∙ ap reverse (recorded-numbers (changesOf c))
 
   taken-back : takenAway (reverse (destinations (changesOf c))) (postingsLeft (prepareOf head table c)) ≡ postingsBefore head table
@@ -123,7 +113,7 @@ module _ (head : Head) (table : List ℕ) (c : Call) (strip : List ℕ) (ok : is
   -- CLEAN UNDO: table and head are those from before the prepare, number for number
   pub rollback-restores :
       properStrip strip ≡ true → Quiet strip 0 (length (destinations (changesOf c))) →
-      rollbackOf (prepareOf head table c .head) (prepareOf head table c .table) (backOf head table c strip) ≡ asBefore head table (backOf head table c strip .recordList) (Answer.Accepted 0)
+      rollbackOf (prepareOf head table c .head) (prepareOf head table c .table) (backOf c (prepareOf head table c) strip) ≡ asBefore head table (backOf c (prepareOf head table c) strip .recordList) (Answer.Accepted 0)
   rollback-restores s q = go (rollbackOf ohead otable back) (rolls-back ohead otable back)
     where
       ohead : Head
@@ -133,7 +123,7 @@ module _ (head : Head) (table : List ℕ) (c : Call) (strip : List ℕ) (ok : is
       otable = prepareOf head table c .table
 
       back : Call
-      back = backOf head table c strip
+      back = backOf c (prepareOf head table c) strip
 
       as-many : length (recordedBack ohead otable back) ≡ length (destinations (changesOf c))
       as-many = ap length undoes ∙ length-reverse (destinations (changesOf c))

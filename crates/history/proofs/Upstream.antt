@@ -18,7 +18,7 @@ use Rattle.rules.specs.Answers.{isAccepted, poisons}
 use Rattle.rules.specs.Checks.{Call, changesOf, prepareChecks, rollbackChecks, removalChecks}
 use Rattle.rules.specs.Publication.{Stage, rolledBack}
 use Rattle.rules.specs.Calls.{Outcome, asBefore, decided, shown, written, prepared, prepareOf, rollbackOf, removalOf}
-use Rattle.laws.specs.Words.{added, takenAway, RemovedOnly, Stable, isUnchanged}
+use Rattle.laws.specs.Words.{isRefusal, added, takenAway, RemovedOnly, Stable, isUnchanged}
 use Rattle.laws.proofs.Tests.{clash}
 use Rattle.laws.proofs.Flat.{postings-laid-out}
 use Rattle.laws.proofs.Answers.{Kind, kind, refusal-unchanged, unchanged-accepts-not}
@@ -85,7 +85,26 @@ module _ (head : Head) (table : List ℕ) (c : Call) where
   refused-not v o a p e k h =
       absurd (clash (isAccepted a) (rw k at h) (unchanged-accepts-not a (refusal-unchanged a (refuses v a p e))))
 
-  -- what the checks of a call that was accepted say
+  -- a call that no check refused has passed them all
+  decided-passes :
+      (v : Verdict) (o : Outcome) → isProper v ≡ true →
+      isRefusal (decided v (asBefore head table (c .recordList)) o .answer) ≡ false → v ≡ Verdict.Passes
+  decided-passes Verdict.Passes o p h = refl
+  decided-passes (Verdict.Refused a) o p h = absurd (clash (isRefusal a) p h)
+
+  rollback-passes : isRefusal (rollbackOf head table c .answer) ≡ false → rollbackChecks head table c ≡ Verdict.Passes
+  unfolding rollbackOf
+  rollback-passes h = decided-passes (rollbackChecks head table c) _ (rollback-proper head table c) h
+
+  prepare-passes : isRefusal (prepareOf head table c .answer) ≡ false → prepareChecks head table c ≡ Verdict.Passes
+  unfolding prepareOf
+  prepare-passes h = decided-passes (prepareChecks head table c) _ (prepare-proper head table c) h
+
+  removal-passes : isRefusal (removalOf head table c .answer) ≡ false → removalChecks head table c ≡ Verdict.Passes
+  unfolding removalOf
+  removal-passes h = decided-passes (removalChecks head table c) _ (removal-proper head table c) h
+
+  -- what a call that was accepted leaves
   rollback-accepted :
       isAccepted (rollbackOf head table c .answer) ≡ true →
       (rollbackChecks head table c ≡ Verdict.Passes) × (postingsLeft (rollbackOf head table c) ≡ takenAway (recordedBack head table c) (postingsBefore head table))
@@ -161,8 +180,8 @@ module _ (head : Head) (table : List ℕ) (c : Call) where
   pub rollback-clauses : RollbackClauses head table c (rollbackOf head table c)
   rollback-clauses =
       record {
-        requiresValid = λ h. rollback-valid (rollback-accepted h .0) .0;
-        requiresIndices = λ h. rollback-valid (rollback-accepted h .0) .1;
+        requiresValid = λ h. rollback-valid (rollback-passes h) .0;
+        requiresIndices = λ h. rollback-valid (rollback-passes h) .1;
         stable = rollback-stable head table c;
         okFlag = accepted-flag (rollbackOf head table c) (rollback-stable head table c);
         okPostings = λ h p.
@@ -214,9 +233,9 @@ module _ (head : Head) (table : List ℕ) (c : Call) where
   pub prepare-clauses : PrepareClauses head table c (prepareOf head table c)
   prepare-clauses =
       record {
-        requiresValid = λ h. prepare-valid (prepare-accepted h .passes) .0;
-        requiresUnique = λ h. prepare-valid (prepare-accepted h .passes) .1;
-        requiresDisjoint = λ h. prepare-valid (prepare-accepted h .passes) .2;
+        requiresValid = λ h. prepare-valid (prepare-passes h) .0;
+        requiresUnique = λ h. prepare-valid (prepare-passes h) .1;
+        requiresDisjoint = λ h. prepare-valid (prepare-passes h) .2;
         stable = prepare-stable head table c;
         okFlag = accepted-flag (prepareOf head table c) (prepare-stable head table c);
         okPostings = λ h p. ap (present p) (prepare-accepted h .postings) ∙ present-added p (going head table c) (postingsBefore head table);
@@ -245,7 +264,7 @@ module _ (head : Head) (table : List ℕ) (c : Call) where
   pub removal-clauses : RemovalClauses head table c (removalOf head table c)
   removal-clauses =
       record {
-        requiresValid = λ h. removal-valid (removal-accepted h .0);
+        requiresValid = λ h. removal-valid (removal-passes h);
         stable = removal-stable head table c;
         okFlag = accepted-flag (removalOf head table c) (removal-stable head table c);
         okPostings = λ h p. ap (present p) (removal-accepted h .1) ∙ present-taken-away p (leaving head table c) (postingsBefore head table);

@@ -10,10 +10,10 @@ use Rattle.rules.specs.declared.Posting.{Posting}
 use Rattle.rules.specs.declared.Head.{Head}
 use Rattle.rules.specs.declared.Answer.{Answer}
 use Rattle.rules.specs.declared.Verdict.{Verdict}
-use Rattle.rules.specs.Postings.{present, ascending}
+use Rattle.rules.specs.Postings.{present, ascending, counted}
 use Rattle.rules.specs.Table.{capacity, postings, laidOut}
 use Rattle.rules.specs.Orders.{Numbered, byteAt, destinations, sources, postingsOf, numbersOf, recorded}
-use Rattle.rules.specs.Checks.{Call, changesOf, prepareChecks, rollbackChecks, removalChecks, publishChecks}
+use Rattle.rules.specs.Checks.{Call, changesOf, prepareChecks, rollbackChecks, removalChecks, publishChecks, countChecks}
 use Rattle.rules.specs.Calls.{Outcome, written}
 use Rattle.laws.specs.Words.{numberAt, Quiet, Noisy}
 
@@ -68,6 +68,7 @@ pub data Answered (checks : Verdict) (ends : Answer → Type 0) (a : Answer) : T
   ended : checks ≡ Verdict.Passes → ends a → Answered checks ends a
 
 module _ (head : Head) (table : List ℕ) (c : Call) where
+  -- the conditions of each call's answers
   abbrev pub PublishAnswers : Answer → Type 0
   PublishAnswers a =
       Answered (publishChecks head table c)
@@ -87,6 +88,13 @@ module _ (head : Head) (table : List ℕ) (c : Call) where
 
   abbrev pub RemovalAnswers : Answer → Type 0
   RemovalAnswers a = Answered (removalChecks head table c) (RemovalEnds (c .strip) (sources (changesOf c))) a
+
+-- a count that no check refuses is accepted, and names how many rows the table has under its binding and key
+abbrev pub CountAnswers : Head → List ℕ → ℕ → ℕ → Answer → Type 0
+CountAnswers head table binding key a =
+    Answered (countChecks head table binding)
+    (λ b. b ≡ Answer.Accepted (counted binding key (postings (head .used) table)))
+    a
 
 -- a posting stands in the table or is a destination, and is no source
 abbrev pub leavesIn : Head → List ℕ → Call → Posting → Bool

@@ -1,10 +1,10 @@
 -- Upstream's contracts of the posting functions, clause by clause, said of the outcome of a call. What upstream requires is
--- checked here and refused; so it holds wherever a call is accepted.
+-- checked here and refused; so it holds wherever no check refused, before the first insertion or removal.
 use Prim.Native.Nat.{ℕ, _<_}
 use mathlib.Core.Path.{_≡_}
 use mathlib.Core.List.{List, []}
 use mathlib.Core.Bool.{true, false, not, _&&_, _||_}
-use lib.ListN.{length, getD}
+use lib.ListN.{length, getD, take}
 use Rattle.rules.specs.declared.Posting.{Posting}
 use Rattle.rules.specs.declared.Head.{Head}
 use Rattle.rules.specs.declared.Answer.{Answer}
@@ -16,7 +16,7 @@ use Rattle.rules.specs.Orders.{guards, destinations, sources, postingsOf, numbe
 use Rattle.rules.specs.Answers.{isAccepted, poisons}
 use Rattle.rules.specs.Checks.{Call, changesOf, guarded, recordable, among, recordFrom}
 use Rattle.rules.specs.Calls.{Outcome, asBefore, written}
-use Rattle.laws.specs.Words.{nowhere, RemovedOnly, Stable, rising}
+use Rattle.laws.specs.Words.{nowhere, RemovedOnly, Stable, rising, isRefusal}
 use Rattle.laws.specs.Names.{twins, Repeated}
 
 abbrev pub postingsBefore : Head → List ℕ → List Posting
@@ -66,8 +66,8 @@ module _ (head : Head) (table : List ℕ) (c : Call) where
 
   -- rollback_index_destinations
   pub record RollbackClauses (o : Outcome) : Type 0 where
-    pub requiresValid : isAccepted (o .answer) ≡ true → Valid
-    pub requiresIndices : isAccepted (o .answer) ≡ true → ValidIndices
+    pub requiresValid : isRefusal (o .answer) ≡ false → Valid
+    pub requiresIndices : isRefusal (o .answer) ≡ false → ValidIndices
     pub stable : Stable head table o
     pub okFlag : isAccepted (o .answer) ≡ true → o .head .poisoned ≡ head .poisoned
     pub okPostings :
@@ -78,9 +78,9 @@ module _ (head : Head) (table : List ℕ) (c : Call) where
 
   -- prepare_index_destinations
   pub record PrepareClauses (o : Outcome) : Type 0 where
-    pub requiresValid : isAccepted (o .answer) ≡ true → Valid
-    pub requiresUnique : isAccepted (o .answer) ≡ true → UniqueDestinations
-    pub requiresDisjoint : isAccepted (o .answer) ≡ true → Disjoint
+    pub requiresValid : isRefusal (o .answer) ≡ false → Valid
+    pub requiresUnique : isRefusal (o .answer) ≡ false → UniqueDestinations
+    pub requiresDisjoint : isRefusal (o .answer) ≡ false → Disjoint
     pub stable : Stable head table o
     pub okFlag : isAccepted (o .answer) ≡ true → o .head .poisoned ≡ head .poisoned
     pub okPostings :
@@ -97,7 +97,7 @@ module _ (head : Head) (table : List ℕ) (c : Call) where
 
   -- remove_index_sources
   pub record RemovalClauses (o : Outcome) : Type 0 where
-    pub requiresValid : isAccepted (o .answer) ≡ true → Valid
+    pub requiresValid : isRefusal (o .answer) ≡ false → Valid
     pub stable : Stable head table o
     pub okFlag : isAccepted (o .answer) ≡ true → o .head .poisoned ≡ head .poisoned
     pub okPostings :
@@ -116,3 +116,13 @@ pub record PrefixRecord (cs : List Change) (ns : List ℕ) : Type 0 where
   pub contains : (j : ℕ) → among j ns ≡ recordable cs j
   -- and what it names are the destinations, in their order
   pub names : recorded cs ns ≡ destinations cs
+
+-- the rollback call for a prepare: the same changes and guards, and the part of the record list that the prepare named
+abbrev pub backOf : Call → Outcome → List ℕ → Call
+backOf c o strip =
+    record {
+      changeList = c .changeList;
+      guardList = c .guardList;
+      strip = strip;
+      recordList = take (length (destinations (changesOf c))) (o .recordList);
+    }

@@ -10,11 +10,16 @@ use Rattle.rules.specs.Checks.{Call}
 use Rattle.rules.specs.Calls.{Outcome}
 use Rattle.rules.specs.Trial.{computing}
 use Rattle.laws.specs.Words.{added, takenAway}
-use Rattle.history.specs.History.{Index, countedIn, after, outcomes, unbroken, accepted, said}
+use Rattle.history.specs.History.{Index, Holds, countedIn, after, outcomes, unbroken, accepted, said}
 
 -- binding count 2, room for four postings, none there
 abbrev pub fresh : Index
 fresh = record { head = record { bindings = 2; used = 0; poisoned = 0 }; table = replicate 12 0 }
+
+-- well formed, unpoisoned and empty: the theorems speak of it
+pub fresh-holds : Holds fresh []
+unfolding computing
+fresh-holds = record { formed = refl; healthy = refl; just = refl }
 
 -- under guards (0,5) and (0,6), with two places for the record
 abbrev pub call : List ℕ → List ℕ → Call

@@ -1,2 +1,2 @@
-// Demand 3, acceptance and upstream's clauses, as theorems about the posting rules. No code: what is claimed stands in specs/,
-// and why it holds in proofs/.
+// Acceptance, right or withheld, and upstream's clauses, as theorems about the posting rules. No code: the words of each claim
+// stand in specs/, the theorem and its proof in proofs/.

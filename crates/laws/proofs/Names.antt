@@ -366,7 +366,9 @@ unfolding firstRefusal
 refused-at [] a h = let z : _≡_ {A = ℕ} 0 1 = cc in absurd (omega arith)
 refused-at (v ∷ vs) a h = go v (refused-at vs a) h
   where
-    go : (w : Verdict) → (firstRefusal vs ≡ Verdict.Refused a → RefusedAt vs a) → orElse w (firstRefusal vs) ≡ Verdict.Refused a → RefusedAt (w ∷ vs) a
+    go :
+        (w : Verdict) → (firstRefusal vs ≡ Verdict.Refused a → RefusedAt vs a) → orElse w (firstRefusal vs) ≡ Verdict.Refused a →
+        RefusedAt (w ∷ vs) a
     go (Verdict.Refused b) ih k =
         record { at = 0; there = omega arith; refuses = k; before = λ i l. absurd (omega arith) }
     go Verdict.Passes ih k =

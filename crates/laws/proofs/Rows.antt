@@ -1,6 +1,6 @@
 -- The rows under a binding and key: a row is among them exactly if its posting stands in the list, and in an ascending list
 -- they ascend. So their number is the number of such postings.
-use Prim.Native.Nat.{ℕ, _+_, _≤_, _<_}
+use Prim.Native.Nat.{ℕ, _+_, _<_}
 use native.Mathlib.Omega.{arith}
 use mathlib.Core.Path.{_≡_, refl, sym, ap, _∙_}
 use mathlib.Core.List.{List, [], _∷_}
