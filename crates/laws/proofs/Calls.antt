@@ -15,7 +15,7 @@ use Rattle.rules.specs.Answers.{isAccepted, poisons, settled}
 use Rattle.rules.specs.Checks.{Call, prepareChecks, rollbackChecks, removalChecks, publishChecks, countChecks}
 use Rattle.rules.specs.Publication.{Stage, rolledBack, thenSources}
 use Rattle.rules.specs.Calls.{Outcome, asBefore, decided, headAfter, shown, prepared, prepareOf, rollbackOf, removalOf, publishOf, countOf}
-use Rattle.laws.specs.Words.{isUnchanged, Stable}
+use Rattle.laws.specs.Words.{isUnchanged, Stable, AsBefore, StaysWellFormed, RefusesPoisoned}
 use Rattle.laws.proofs.Tests.{by-cases, clash}
 use Rattle.laws.proofs.Flat.{well-formed-parts, Sound, sound-postings, well-formed-laid-out, length-laid-out}
 use Rattle.laws.proofs.Undo.{undo-sound}
@@ -48,53 +48,37 @@ module _ (head : Head) (table : List ℕ) (c : Call) where
       (λ b. not-unchanged (prepared head table c .answer) _ h (b .answers) refl)
       (s .undo)
 
-  pub publish-as-before :
-      isUnchanged (publishOf head table c .answer) ≡ true →
-      publishOf head table c ≡ asBefore head table (c .recordList) (publishOf head table c .answer)
+  pub publish-as-before : AsBefore head table c (publishOf head table c)
   publish-as-before h = go (publishOf head table c) (published head table c) h
     where
-      go :
-          (o : Outcome) → Published head table c o → isUnchanged (o .answer) ≡ true →
-          o ≡ asBefore head table (c .recordList) (o .answer)
+      go : (o : Outcome) → Published head table c o → AsBefore head table c o
       go o (Published.refused a e k) u = own-answer head table (c .recordList) o a k
       go o (Published.taken e r l k) u = not-unchanged (o .answer) _ u (ap (λ (x : Outcome). x .answer) k) refl
       go o (Published.halted e r l k) u = not-unchanged (o .answer) _ u (ap (λ (x : Outcome). x .answer) k ∙ l .answers) refl
       go o (Published.stopped e s k) u = rw k (stopped-same (publish-clear head table c e) s (rw k at u))
 
-  pub prepare-as-before :
-      isUnchanged (prepareOf head table c .answer) ≡ true →
-      prepareOf head table c ≡ asBefore head table (c .recordList) (prepareOf head table c .answer)
+  pub prepare-as-before : AsBefore head table c (prepareOf head table c)
   prepare-as-before h = go (prepareOf head table c) (prepares head table c) h
     where
-      go :
-          (o : Outcome) → Prepares head table c o → isUnchanged (o .answer) ≡ true →
-          o ≡ asBefore head table (c .recordList) (o .answer)
+      go : (o : Outcome) → Prepares head table c o → AsBefore head table c o
       go o (Prepares.refused a e k) u = own-answer head table (c .recordList) o a k
       go o (Prepares.ready e r k) u = not-unchanged (o .answer) _ u (ap (λ (x : Outcome). x .answer) k ∙ r .answers) refl
       go o (Prepares.stopped e s k) u = rw k (stopped-same (prepare-clear head table c e) s (rw k at u))
 
-  pub rollback-as-before :
-      isUnchanged (rollbackOf head table c .answer) ≡ true →
-      rollbackOf head table c ≡ asBefore head table (c .recordList) (rollbackOf head table c .answer)
+  pub rollback-as-before : AsBefore head table c (rollbackOf head table c)
   rollback-as-before h = go (rollbackOf head table c) (rolls-back head table c) h
     where
-      go :
-          (o : Outcome) → RollsBack head table c o → isUnchanged (o .answer) ≡ true →
-          o ≡ asBefore head table (c .recordList) (o .answer)
+      go : (o : Outcome) → RollsBack head table c o → AsBefore head table c o
       go o (RollsBack.refused a e k) u = own-answer head table (c .recordList) o a k
       go o (RollsBack.clean e r k) u =
           not-unchanged (o .answer) _ u (ap (λ (x : Outcome). x .answer) k ∙ ap (λ v. settled v (Answer.Accepted 0)) (r .verdict)) refl
       go o (RollsBack.failed e r k) u =
           not-unchanged (o .answer) _ u (ap (λ (x : Outcome). x .answer) k ∙ ap (λ v. settled v (Answer.Accepted 0)) (r .verdict)) refl
 
-  pub removal-as-before :
-      isUnchanged (removalOf head table c .answer) ≡ true →
-      removalOf head table c ≡ asBefore head table (c .recordList) (removalOf head table c .answer)
+  pub removal-as-before : AsBefore head table c (removalOf head table c)
   removal-as-before h = go (removalOf head table c) (removes head table c) h
     where
-      go :
-          (o : Outcome) → Removes head table c o → isUnchanged (o .answer) ≡ true →
-          o ≡ asBefore head table (c .recordList) (o .answer)
+      go : (o : Outcome) → Removes head table c o → AsBefore head table c o
       go o (Removes.refused a e k) u = own-answer head table (c .recordList) o a k
       go o (Removes.cleared e r k) u = not-unchanged (o .answer) _ u (ap (λ (x : Outcome). x .answer) k ∙ r .answers) refl
       go o (Removes.halted e r k) u = not-unchanged (o .answer) _ u (ap (λ (x : Outcome). x .answer) k ∙ r .answers) refl
@@ -135,35 +119,30 @@ module _ (head : Head) (table : List ℕ) (c : Call) where
 
   -- so a well-formed table stays well formed
   decided-well-formed :
-      (v : Verdict) (list : List ℕ) (s : Stage) → wellFormed head table ≡ true →
-      (v ≡ Verdict.Passes → Sound (head .bindings) (capacity table) (s .postings)) →
-      wellFormed (decided v (asBefore head table (c .recordList)) (shown head table list s) .head) (decided v (asBefore head table (c .recordList)) (shown head table list s) .table) ≡ true
-  decided-well-formed (Verdict.Refused a) list s h f = h
-  decided-well-formed Verdict.Passes list s h f =
+      (v : Verdict) (list : List ℕ) (s : Stage) → (v ≡ Verdict.Passes → Sound (head .bindings) (capacity table) (s .postings)) →
+      StaysWellFormed head table (decided v (asBefore head table (c .recordList)) (shown head table list s))
+  decided-well-formed (Verdict.Refused a) list s f h = h
+  decided-well-formed Verdict.Passes list s f h =
       let w = well-formed-parts head table h in
       well-formed-laid-out head (headAfter head (s .answer) (s .postings)) table (s .postings) w (f refl) refl refl
       (by-cases (λ (n : ℕ). n ≤ 1) (poisons (s .answer)) (λ e. omega arith) (λ e. w .flag))
 
-  pub prepare-well-formed :
-      wellFormed head table ≡ true → wellFormed (prepareOf head table c .head) (prepareOf head table c .table) ≡ true
+  pub prepare-well-formed : StaysWellFormed head table (prepareOf head table c)
   unfolding prepareOf
-  prepare-well-formed h = decided-well-formed (prepareChecks head table c) _ (prepared head table c) h prepare-shows
+  prepare-well-formed h = decided-well-formed (prepareChecks head table c) _ (prepared head table c) prepare-shows h
 
-  pub rollback-well-formed :
-      wellFormed head table ≡ true → wellFormed (rollbackOf head table c .head) (rollbackOf head table c .table) ≡ true
+  pub rollback-well-formed : StaysWellFormed head table (rollbackOf head table c)
   unfolding rollbackOf
-  rollback-well-formed h = decided-well-formed (rollbackChecks head table c) _ (rolledBack (undid head table c)) h rollback-shows
+  rollback-well-formed h = decided-well-formed (rollbackChecks head table c) _ (rolledBack (undid head table c)) rollback-shows h
 
-  pub removal-well-formed :
-      wellFormed head table ≡ true → wellFormed (removalOf head table c .head) (removalOf head table c .table) ≡ true
+  pub removal-well-formed : StaysWellFormed head table (removalOf head table c)
   unfolding removalOf
-  removal-well-formed h = decided-well-formed (removalChecks head table c) _ (removedAlone head table c) h removal-shows
+  removal-well-formed h = decided-well-formed (removalChecks head table c) _ (removedAlone head table c) removal-shows h
 
-  pub publish-well-formed :
-      wellFormed head table ≡ true → wellFormed (publishOf head table c .head) (publishOf head table c .table) ≡ true
+  pub publish-well-formed : StaysWellFormed head table (publishOf head table c)
   unfolding publishOf
   publish-well-formed h =
-      decided-well-formed (publishChecks head table c) _ (thenSources (c .strip) (leaving head table c) (prepared head table c)) h publish-shows
+      decided-well-formed (publishChecks head table c) _ (thenSources (c .strip) (leaving head table c) (prepared head table c)) publish-shows h
 
   -- and binding count and size stay at every answer, and the poison flag at all but 12 and 13
   decided-stable :
@@ -198,27 +177,19 @@ module _ (head : Head) (table : List ℕ) (c : Call) where
       decided-stable (publishChecks head table c) _ (thenSources (c .strip) (leaving head table c) (prepared head table c)) (publish-proper head table c) publish-shows
 
   -- a poisoned table is refused with 2 by every call, and nothing changes
-  pub prepare-poisoned :
-      wellFormed head table ≡ true → head .poisoned ≡ 1 →
-      prepareOf head table c ≡ asBefore head table (c .recordList) Answer.Poisoned
+  pub prepare-poisoned : RefusesPoisoned head table c (prepareOf head table c)
   unfolding prepareOf prepareChecks
   prepare-poisoned h k = rw (poisoned-first head table _ h k)
 
-  pub rollback-poisoned :
-      wellFormed head table ≡ true → head .poisoned ≡ 1 →
-      rollbackOf head table c ≡ asBefore head table (c .recordList) Answer.Poisoned
+  pub rollback-poisoned : RefusesPoisoned head table c (rollbackOf head table c)
   unfolding rollbackOf rollbackChecks
   rollback-poisoned h k = rw (poisoned-first head table _ h k)
 
-  pub removal-poisoned :
-      wellFormed head table ≡ true → head .poisoned ≡ 1 →
-      removalOf head table c ≡ asBefore head table (c .recordList) Answer.Poisoned
+  pub removal-poisoned : RefusesPoisoned head table c (removalOf head table c)
   unfolding removalOf removalChecks
   removal-poisoned h k = rw (poisoned-first head table _ h k)
 
-  pub publish-poisoned :
-      wellFormed head table ≡ true → head .poisoned ≡ 1 →
-      publishOf head table c ≡ asBefore head table (c .recordList) Answer.Poisoned
+  pub publish-poisoned : RefusesPoisoned head table c (publishOf head table c)
   unfolding publishOf publishChecks
   publish-poisoned h k = rw (poisoned-first head table _ h k)
 

@@ -12,7 +12,9 @@ use Rattle.rules.specs.declared.Answer.{Answer}
 use Rattle.rules.specs.Answers.{toldOf, poisons}
 use Rattle.rules.specs.Postings.{present, inserted, removed}
 use Rattle.rules.specs.Orders.{Numbered, byteAt}
-use Rattle.rules.specs.Calls.{Outcome}
+use Rattle.rules.specs.Table.{wellFormed}
+use Rattle.rules.specs.Checks.{Call}
+use Rattle.rules.specs.Calls.{Outcome, asBefore}
 
 -- the list with these destinations
 unfoldable pub added : List Numbered → List Posting → List Posting
@@ -60,6 +62,19 @@ isRefusal a = (leb 1 (toldOf a .answer) && leb (toldOf a .answer) 9) || eqb (tol
 -- 1 to 11 and 14: the answers that leave everything as before
 abbrev pub isUnchanged : Answer → Bool
 isUnchanged a = (leb 1 (toldOf a .answer) && leb (toldOf a .answer) 11) || eqb (toldOf a .answer) 14
+
+-- what is claimed of the outcome of a call: an answer of 1 to 11 or 14 leaves everything as before
+abbrev pub AsBefore : Head → List ℕ → Call → Outcome → Type 0
+AsBefore head table c o = isUnchanged (o .answer) ≡ true → o ≡ asBefore head table (c .recordList) (o .answer)
+
+-- a well-formed table stays well formed
+abbrev pub StaysWellFormed : Head → List ℕ → Outcome → Type 0
+StaysWellFormed head table o = wellFormed head table ≡ true → wellFormed (o .head) (o .table) ≡ true
+
+-- a poisoned table is refused with 2, and nothing changes
+abbrev pub RefusesPoisoned : Head → List ℕ → Call → Outcome → Type 0
+RefusesPoisoned head table c o =
+    wellFormed head table ≡ true → head .poisoned ≡ 1 → o ≡ asBefore head table (c .recordList) Answer.Poisoned
 
 -- upstream's stable, and the table's size: no answer touches the binding count, and only 12 and 13 touch the poison flag
 pub record Stable (head : Head) (table : List ℕ) (o : Outcome) : Type 0 where
