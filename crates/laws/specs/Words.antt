@@ -26,7 +26,7 @@ unfoldable pub takenAway : List Numbered → List Posting → List Posting
 takenAway [] ps = ps
 takenAway (d ∷ ds) ps = takenAway ds (removed (d .posting) ps)
 
--- strictly ascending numbers, none below the first
+-- strictly ascending numbers, none of them below low
 unfoldable pub rising : ℕ → List ℕ → Bool
 rising low [] = true
 rising low (n ∷ ns) = leb low n && rising (n + 1) ns
