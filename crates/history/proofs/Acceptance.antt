@@ -162,16 +162,16 @@ accepted-passes v E p a h (Answered.refused e) =
 accepted-passes v E p a h (Answered.ended e k) = (e, k)
 
 module _ (head : Head) (table : List ℕ) (c : Call) where
-  used-start : Clear head table c → length (start head table c) ≡ head .used
+  used-start : Clear head table c → length (start head table) ≡ head .used
   used-start k = used-postings head table (well-formed-parts head table (k .formed))
 
-  ready-room : Clear head table c → IsReady head table c → head .used + length (going head table c) ≤ capacity table
+  ready-room : Clear head table c → IsReady head table c → head .used + length (going c) ≤ capacity table
   ready-room k r = let u = used-start k in let l = r .room in omega arith
 
   stopped-fails :
       Clear head table c → (s : IsStopped head table c) →
       (byteAt (c .strip) (s .at) ≡ 0 → ⊥) ⊎ (head .used + s .at ≡ capacity table) →
-      Fails (capacity table) (head .used) (c .strip) (going head table c) (s .at)
+      Fails (capacity table) (head .used) (c .strip) (going c) (s .at)
   stopped-fails k s f =
       record {
         there = s .there;
@@ -183,7 +183,7 @@ module _ (head : Head) (table : List ℕ) (c : Call) where
   -- the insertion that stopped prepare is the first to fail, and its undo is clean or not
   stopped-ends :
       (ss : List Numbered) → Clear head table c → IsStopped head table c →
-      Ends (capacity table) (head .used) (c .strip) (going head table c) ss (prepared head table c .answer)
+      Ends (capacity table) (head .used) (c .strip) (going c) ss (prepared head table c .answer)
   stopped-ends ss k s = go (s .why) (s .cause) (s .undo)
     where
       z : 0 + s .at ≡ s .at
@@ -191,9 +191,9 @@ module _ (head : Head) (table : List ℕ) (c : Call) where
 
       go :
           (why : Answer) →
-          Cause (byteAt (c .strip) (0 + s .at)) (length (start head table c) + s .at) (capacity table) (numberAt (going head table c) (s .at)) why →
-          TakenBack (c .strip) (0 + s .at + 1) (0 + s .at + 1 + (0 + s .at)) (start head table c) why (prepared head table c) ⊎ LeftBehind (c .strip) (0 + s .at + 1) (0 + s .at + 1 + (0 + s .at)) (numberAt (going head table c) (s .at)) (start head table c) (prepared head table c) →
-          Ends (capacity table) (head .used) (c .strip) (going head table c) ss (prepared head table c .answer)
+          Cause (byteAt (c .strip) (0 + s .at)) (length (start head table) + s .at) (capacity table) (numberAt (going c) (s .at)) why →
+          TakenBack (c .strip) (0 + s .at + 1) (0 + s .at + 1 + (0 + s .at)) (start head table) why (prepared head table c) ⊎ LeftBehind (c .strip) (0 + s .at + 1) (0 + s .at + 1 + (0 + s .at)) (numberAt (going c) (s .at)) (start head table) (prepared head table c) →
+          Ends (capacity table) (head .used) (c .strip) (going c) ss (prepared head table c .answer)
       go why (Cause.store b) u =
           let b′ : byteAt (c .strip) (s .at) ≡ 0 → ⊥ = rw z at b in
           let f = stopped-fails k s (inl b′) in
@@ -205,10 +205,10 @@ module _ (head : Head) (table : List ℕ) (c : Call) where
 
   -- the bytes of all insertions, and then those of source removals
   ready-quiet :
-      (n : ℕ) → IsReady head table c → Quiet (c .strip) (length (going head table c)) (length (going head table c) + n) →
-      Quiet (c .strip) 0 (length (going head table c) + n)
+      (n : ℕ) → IsReady head table c → Quiet (c .strip) (length (going c)) (length (going c) + n) →
+      Quiet (c .strip) 0 (length (going c) + n)
   ready-quiet n r q =
-      quiet-join (c .strip) 0 (length (going head table c)) (length (going head table c) + n) (λ i h k. r .quiet i h (omega arith)) q
+      quiet-join (c .strip) 0 (length (going c)) (length (going c) + n) (λ i h k. r .quiet i h (omega arith)) q
 
   -- every call is answered as told
   pub publish-answered : PublishAnswers head table c (publishOf head table c .answer)
@@ -219,12 +219,12 @@ module _ (head : Head) (table : List ℕ) (c : Call) where
       go o (Published.taken e r l k) =
           rw k
           (Answered.ended e
-          (Ends.accepted (ready-room (publish-clear head table c e) r) (ready-quiet (length (leaving head table c)) r (l .quiet))))
+          (Ends.accepted (ready-room (publish-clear head table c e) r) (ready-quiet (length (leaving c)) r (l .quiet))))
       go o (Published.halted e r l k) =
           rw (k, l .answers)
           (Answered.ended e
           (Ends.source (l .at) (l .there) (ready-room (publish-clear head table c e) r) (ready-quiet (l .at) r (l .quiet)) (l .fault)))
-      go o (Published.stopped e s k) = rw k (Answered.ended e (stopped-ends (leaving head table c) (publish-clear head table c e) s))
+      go o (Published.stopped e s k) = rw k (Answered.ended e (stopped-ends (leaving c) (publish-clear head table c e) s))
 
   pub prepare-answered : PrepareAnswers head table c (prepareOf head table c .answer)
   prepare-answered = go (prepareOf head table c) (prepares head table c)
@@ -232,7 +232,7 @@ module _ (head : Head) (table : List ℕ) (c : Call) where
       go : (o : Outcome) → Prepares head table c o → PrepareAnswers head table c (o .answer)
       go o (Prepares.refused a e k) = rw k (Answered.refused e)
       go o (Prepares.ready e r k) =
-          let n : 0 + length (going head table c) ≡ length (going head table c) = zero-add (length (going head table c)) in
+          let n : 0 + length (going c) ≡ length (going c) = zero-add (length (going c)) in
           rw (k, r .answers, n)
           (Answered.ended e
           (Ends.accepted (ready-room (prepare-clear head table c e) r) (ready-quiet 0 r λ i h l. absurd (omega arith))))
@@ -266,24 +266,24 @@ module _ (head : Head) (table : List ℕ) (c : Call) where
   pub publish-exactly : (a : Answer) → (publishOf head table c .answer ≡ a) ↔ PublishAnswers head table c a
   publish-exactly =
       exactly (publishChecks head table c) _
-      (ends-one (capacity table) (head .used) (c .strip) (going head table c) (leaving head table c))
+      (ends-one (capacity table) (head .used) (c .strip) (going c) (leaving c))
       (publishOf head table c .answer)
       publish-answered
 
   pub prepare-exactly : (a : Answer) → (prepareOf head table c .answer ≡ a) ↔ PrepareAnswers head table c a
   prepare-exactly =
-      exactly (prepareChecks head table c) _ (ends-one (capacity table) (head .used) (c .strip) (going head table c) [])
+      exactly (prepareChecks head table c) _ (ends-one (capacity table) (head .used) (c .strip) (going c) [])
       (prepareOf head table c .answer)
       prepare-answered
 
   pub rollback-exactly : (a : Answer) → (rollbackOf head table c .answer ≡ a) ↔ RollbackAnswers head table c a
   rollback-exactly =
-      exactly (rollbackChecks head table c) _ (rollback-ends-one (c .strip) (recordedBack head table c)) (rollbackOf head table c .answer)
+      exactly (rollbackChecks head table c) _ (rollback-ends-one (c .strip) (recordedBack c)) (rollbackOf head table c .answer)
       rollback-answered
 
   pub removal-exactly : (a : Answer) → (removalOf head table c .answer ≡ a) ↔ RemovalAnswers head table c a
   removal-exactly =
-      exactly (removalChecks head table c) _ (removal-ends-one (c .strip) (leaving head table c)) (removalOf head table c .answer)
+      exactly (removalChecks head table c) _ (removal-ends-one (c .strip) (leaving c)) (removalOf head table c .answer)
       removal-answered
 
   -- a publish is accepted exactly when no check applies, there is room, and every byte that it reads is 0
@@ -291,7 +291,7 @@ module _ (head : Head) (table : List ℕ) (c : Call) where
   accepted-exactly = (
     (λ h.
         let k = accepted-passes _ _ (publish-proper head table c) _ h publish-answered in
-        let r = accepted-ends (capacity table) (head .used) (c .strip) (going head table c) (leaving head table c) _ h (k .1) in
+        let r = accepted-ends (capacity table) (head .used) (c .strip) (going c) (leaving c) _ h (k .1) in
         record { passes = k .0; room = r .0; quiet = r .1 }),
     (λ k. rw (publish-exactly _ .1 (Answered.ended (k .passes) (Ends.accepted (k .room) (k .quiet))))),
   )
@@ -316,11 +316,11 @@ module _ (head : Head) (table : List ℕ) (c : Call) where
         bindings = refl;
         poisoned = refl;
         recordList = refl;
-        set = λ p. rw (postings-laid-out (length table) (takenAway (leaving head table c) (added (going head table c) (start head table c)))) (present-said p (going head table c) (leaving head table c) (start head table c));
-        list = λ l h f. let e = said-list (going head table c) (leaving head table c) (start head table c) l sorted h f in (ap length e, ap (laidOut (length table)) e);
+        set = λ p. rw (postings-laid-out (length table) (takenAway (leaving c) (added (going c) (start head table)))) (present-said p (going c) (leaving c) (start head table));
+        list = λ l h f. let e = said-list (going c) (leaving c) (start head table) l sorted h f in (ap length e, ap (laidOut (length table)) e);
       })
     where
-      sorted : ascending (start head table c) ≡ true
+      sorted : ascending (start head table) ≡ true
       sorted = well-formed-parts head table (publish-clear head table c (k .passes) .formed) .sorted
 
 -- the answers of a count

@@ -84,7 +84,7 @@ module _ (head : Head) (table : List ℕ) (c : Call) (strip : List ℕ) (ok : is
       (cons-passes _ _ (guard-passes (first-passes _ _ h6)) (cons-passes _ _ record-passes none-left)))))
 
   -- what the rollback undoes, and what that leaves
-  undoes : recordedBack (prepareOf head table c .head) (prepareOf head table c .table) (backOf c (prepareOf head table c) strip) ≡ reverse (destinations (changesOf c))
+  undoes : recordedBack (backOf c (prepareOf head table c) strip) ≡ reverse (destinations (changesOf c))
   undoes = ap (λ l. reverse (recorded (changesOf c) l)) part-record ∙ ap reverse (recorded-numbers (changesOf c))
 
   taken-back : takenAway (reverse (destinations (changesOf c))) (postingsLeft (prepareOf head table c)) ≡ postingsBefore head table
@@ -125,7 +125,7 @@ module _ (head : Head) (table : List ℕ) (c : Call) (strip : List ℕ) (ok : is
       back : Call
       back = backOf c (prepareOf head table c) strip
 
-      as-many : length (recordedBack ohead otable back) ≡ length (destinations (changesOf c))
+      as-many : length (recordedBack back) ≡ length (destinations (changesOf c))
       as-many = ap length undoes ∙ length-reverse (destinations (changesOf c))
 
       go : (o : Outcome) → RollsBack ohead otable back o → o ≡ asBefore head table (back .recordList) (Answer.Accepted 0)

@@ -107,36 +107,36 @@ module _ (head : Head) (table : List ℕ) (c : Call) where
   -- what a call that was accepted leaves
   rollback-accepted :
       isAccepted (rollbackOf head table c .answer) ≡ true →
-      (rollbackChecks head table c ≡ Verdict.Passes) × (postingsLeft (rollbackOf head table c) ≡ takenAway (recordedBack head table c) (postingsBefore head table))
+      postingsLeft (rollbackOf head table c) ≡ takenAway (recordedBack c) (postingsBefore head table)
   rollback-accepted h = go (rollbackOf head table c) h (rolls-back head table c)
     where
       go :
           (o : Outcome) → isAccepted (o .answer) ≡ true → RollsBack head table c o →
-          (rollbackChecks head table c ≡ Verdict.Passes) × (postingsLeft o ≡ takenAway (recordedBack head table c) (postingsBefore head table))
+          postingsLeft o ≡ takenAway (recordedBack c) (postingsBefore head table)
       go o u (RollsBack.refused a e k) = refused-not (rollbackChecks head table c) o a (rollback-proper head table c) e k u
       go o u (RollsBack.clean e r k) =
-          (e, rw k (shown-left (λ l. l ≡ takenAway (recordedBack head table c) (postingsBefore head table)) (rolledBack (undid head table c)) (r .leaves)))
+          rw k (shown-left (λ l. l ≡ takenAway (recordedBack c) (postingsBefore head table)) (rolledBack (undid head table c)) (r .leaves))
       go o u (RollsBack.failed e r k) = absurd (clash (isAccepted (o .answer)) u (rw (k, r .verdict)))
 
   removal-accepted :
       isAccepted (removalOf head table c .answer) ≡ true →
-      (removalChecks head table c ≡ Verdict.Passes) × (postingsLeft (removalOf head table c) ≡ takenAway (leaving head table c) (postingsBefore head table))
+      postingsLeft (removalOf head table c) ≡ takenAway (leaving c) (postingsBefore head table)
   removal-accepted h = go (removalOf head table c) h (removes head table c)
     where
       go :
           (o : Outcome) → isAccepted (o .answer) ≡ true → Removes head table c o →
-          (removalChecks head table c ≡ Verdict.Passes) × (postingsLeft o ≡ takenAway (leaving head table c) (postingsBefore head table))
+          postingsLeft o ≡ takenAway (leaving c) (postingsBefore head table)
       go o u (Removes.refused a e k) = refused-not (removalChecks head table c) o a (removal-proper head table c) e k u
       go o u (Removes.cleared e r k) =
-          (e, rw k (shown-left (λ l. l ≡ takenAway (leaving head table c) (postingsBefore head table)) (removedAlone head table c) (r .leaves)))
+          rw k (shown-left (λ l. l ≡ takenAway (leaving c) (postingsBefore head table)) (removedAlone head table c) (r .leaves))
       go o u (Removes.halted e r k) = absurd (clash (isAccepted (o .answer)) u (rw (k, r .answers)))
 
   pub record PreparedWell (o : Outcome) : Type 0 where
     pub passes : prepareChecks head table c ≡ Verdict.Passes
-    pub postings : postingsLeft o ≡ added (going head table c) (postingsBefore head table)
-    pub named : o .answer ≡ Answer.Accepted (length (going head table c))
-    pub whole : o ≡ shown head table (written (numbersOf (going head table c)) (c .recordList)) (prepared head table c)
-    pub leaves : prepared head table c .postings ≡ added (going head table c) (postingsBefore head table)
+    pub postings : postingsLeft o ≡ added (going c) (postingsBefore head table)
+    pub named : o .answer ≡ Answer.Accepted (length (going c))
+    pub whole : o ≡ shown head table (written (numbersOf (going c)) (c .recordList)) (prepared head table c)
+    pub leaves : prepared head table c .postings ≡ added (going c) (postingsBefore head table)
 
   pub prepare-accepted : isAccepted (prepareOf head table c .answer) ≡ true → PreparedWell (prepareOf head table c)
   prepare-accepted h = go (prepareOf head table c) h (prepares head table c)
@@ -146,8 +146,8 @@ module _ (head : Head) (table : List ℕ) (c : Call) where
       go o u (Prepares.ready e r k) =
           record {
             passes = e;
-            postings = rw k (shown-left (λ l. l ≡ added (going head table c) (postingsBefore head table)) (prepared head table c) (r .leaves));
-            named = ap (λ (x : Outcome). x .answer) k ∙ (r .answers ∙ ap Answer.Accepted (zero-add (length (going head table c))));
+            postings = rw k (shown-left (λ l. l ≡ added (going c) (postingsBefore head table)) (prepared head table c) (r .leaves));
+            named = ap (λ (x : Outcome). x .answer) k ∙ (r .answers ∙ ap Answer.Accepted (zero-add (length (going c))));
             whole = k;
             leaves = r .leaves;
           }
@@ -160,10 +160,10 @@ module _ (head : Head) (table : List ℕ) (c : Call) where
       decided-left (λ l. RemovedOnly (postingsBefore head table) l (postingsOf (recorded (changesOf c) (c .recordList)))) (rollbackChecks head table c) (c .recordList)
       (rolledBack (undid head table c))
       (removed-only-same (postingsBefore head table) _)
-      (turned (undo-removes (c .strip) (recordedBack head table c) Verdict.Passes 0 (postingsBefore head table)))
+      (turned (undo-removes (c .strip) (recordedBack c) Verdict.Passes 0 (postingsBefore head table)))
     where
       turned :
-          RemovedOnly (postingsBefore head table) (undid head table c .postings) (postingsOf (recordedBack head table c)) →
+          RemovedOnly (postingsBefore head table) (undid head table c .postings) (postingsOf (recordedBack c)) →
           RemovedOnly (postingsBefore head table) (undid head table c .postings) (postingsOf (recorded (changesOf c) (c .recordList)))
       turned r =
           record {
@@ -175,7 +175,7 @@ module _ (head : Head) (table : List ℕ) (c : Call) where
   unfolding rollbackChecks
   rollback-valid h1 =
       let h5 = rest-passes _ _ (rest-passes _ _ (rest-passes _ _ (rest-passes _ _ h1))) in
-      (guard-passes head table c (first-passes _ _ h5), record-passes c (first-passes _ _ (rest-passes _ _ h5)))
+      (guard-passes head c (first-passes _ _ h5), record-passes c (first-passes _ _ (rest-passes _ _ h5)))
 
   pub rollback-clauses : RollbackClauses head table c (rollbackOf head table c)
   rollback-clauses =
@@ -185,8 +185,8 @@ module _ (head : Head) (table : List ℕ) (c : Call) where
         stable = rollback-stable head table c;
         okFlag = accepted-flag (rollbackOf head table c) (rollback-stable head table c);
         okPostings = λ h p.
-            ap (present p) (rollback-accepted h .1)
-            ∙ (present-taken-away p (recordedBack head table c) (postingsBefore head table)
+            ap (present p) (rollback-accepted h)
+            ∙ (present-taken-away p (recordedBack c) (postingsBefore head table)
             ∙ ap (λ b. present p (postingsBefore head table) && not b) (present-reverse p (recorded (changesOf c) (c .recordList))));
         errors = errors-of (rollbackOf head table c) (rollback-stable head table c) (rollback-as-before head table c);
         removedOnly = rollback-removes;
@@ -200,7 +200,7 @@ module _ (head : Head) (table : List ℕ) (c : Call) where
       let h6 = rest-passes _ _ (rest-passes _ _ (rest-passes _ _ (rest-passes _ _ (rest-passes _ _ h1)))) in
       let h7 = rest-passes _ _ h6 in
       let h8 = rest-passes _ _ h7 in (
-        guard-passes head table c (first-passes _ _ h6),
+        guard-passes head c (first-passes _ _ h6),
         twice-passes c (first-passes _ _ h7),
         present-passes head table c (first-passes _ _ h8),
       )
@@ -214,7 +214,7 @@ module _ (head : Head) (table : List ℕ) (c : Call) where
       go o (Prepares.ready e r k) =
           rw k
           (shown-left (λ l. present p l ≡ true) (prepared head table c)
-          (rw (r .leaves, present-added p (going head table c) (postingsBefore head table), h)))
+          (rw (r .leaves, present-added p (going c) (postingsBefore head table), h)))
       go o (Prepares.stopped e s k) =
           rw k
           (shown-left (λ l. present p l ≡ true) (prepared head table c)
@@ -228,7 +228,7 @@ module _ (head : Head) (table : List ℕ) (c : Call) where
       decided-left (λ l. present p l ≡ true → (present p (postingsBefore head table) || present p (postingsOf (destinations (changesOf c)))) ≡ true) (prepareChecks head table c) _
       (prepared head table c)
       (λ h. rw h)
-      (λ h. prepare-inside (capacity table) (c .strip) (going head table c) [] 0 (postingsBefore head table) p h)
+      (λ h. prepare-inside (capacity table) (c .strip) (going c) [] 0 (postingsBefore head table) p h)
 
   pub prepare-clauses : PrepareClauses head table c (prepareOf head table c)
   prepare-clauses =
@@ -238,9 +238,9 @@ module _ (head : Head) (table : List ℕ) (c : Call) where
         requiresDisjoint = λ h. prepare-valid (prepare-passes h) .2;
         stable = prepare-stable head table c;
         okFlag = accepted-flag (prepareOf head table c) (prepare-stable head table c);
-        okPostings = λ h p. ap (present p) (prepare-accepted h .postings) ∙ present-added p (going head table c) (postingsBefore head table);
+        okPostings = λ h p. ap (present p) (prepare-accepted h .postings) ∙ present-added p (going c) (postingsBefore head table);
         okRecord = λ h. ap (λ (o : Outcome). o .recordList) (prepare-accepted h .whole);
-        okNamed = λ h. prepare-accepted h .named ∙ ap Answer.Accepted (sym (length-map (going head table c) (λ (d : Numbered). d .number)));
+        okNamed = λ h. prepare-accepted h .named ∙ ap Answer.Accepted (sym (length-map (going c) (λ (d : Numbered). d .number)));
         errors = errors-of (prepareOf head table c) (prepare-stable head table c) (prepare-as-before head table c);
         keeps = prepare-keeps;
         inside = prepare-within;
@@ -251,7 +251,7 @@ module _ (head : Head) (table : List ℕ) (c : Call) where
   unfolding removalChecks
   removal-valid h1 =
       let h5 = rest-passes _ _ (rest-passes _ _ (rest-passes _ _ (rest-passes _ _ h1))) in
-      guard-passes head table c (first-passes _ _ h5)
+      guard-passes head c (first-passes _ _ h5)
 
   removal-removes : RemovedOnly (postingsBefore head table) (postingsLeft (removalOf head table c)) (postingsOf (sources (changesOf c)))
   unfolding removalOf
@@ -259,7 +259,7 @@ module _ (head : Head) (table : List ℕ) (c : Call) where
       decided-left (λ l. RemovedOnly (postingsBefore head table) l (postingsOf (sources (changesOf c)))) (removalChecks head table c) (c .recordList)
       (removedAlone head table c)
       (removed-only-same (postingsBefore head table) _)
-      (remove-removes (c .strip) (Answer.Accepted 0) (leaving head table c) 0 (postingsBefore head table))
+      (remove-removes (c .strip) (Answer.Accepted 0) (leaving c) 0 (postingsBefore head table))
 
   pub removal-clauses : RemovalClauses head table c (removalOf head table c)
   removal-clauses =
@@ -267,7 +267,7 @@ module _ (head : Head) (table : List ℕ) (c : Call) where
         requiresValid = λ h. removal-valid (removal-passes h);
         stable = removal-stable head table c;
         okFlag = accepted-flag (removalOf head table c) (removal-stable head table c);
-        okPostings = λ h p. ap (present p) (removal-accepted h .1) ∙ present-taken-away p (leaving head table c) (postingsBefore head table);
+        okPostings = λ h p. ap (present p) (removal-accepted h) ∙ present-taken-away p (leaving c) (postingsBefore head table);
         errors = errors-of (removalOf head table c) (removal-stable head table c) (removal-as-before head table c);
         removedOnly = removal-removes;
       }

@@ -17,11 +17,13 @@ use Rattle.rules.specs.Answers.{isAccepted, poisons}
 use Rattle.rules.specs.Checks.{Call, changesOf, guarded, recordable, among, recordFrom}
 use Rattle.rules.specs.Calls.{Outcome, asBefore, written}
 use Rattle.laws.specs.Words.{nowhere, RemovedOnly, Stable, rising, isRefusal}
-use Rattle.laws.specs.Names.{twins, Repeated}
+use Rattle.laws.specs.Names.{Apart, Repeated}
 
+-- the postings of a table with its head
 abbrev pub postingsBefore : Head → List ℕ → List Posting
 postingsBefore head table = postings (head .used) table
 
+-- the postings that a call leaves
 abbrev pub postingsLeft : Outcome → List Posting
 postingsLeft o = postings (o .head .used) (o .table)
 
@@ -31,12 +33,11 @@ module _ (head : Head) (table : List ℕ) (c : Call) where
   Valid =
       (k : ℕ) → k < length (changesOf c) → guarded (head .bindings) (guards (c .guardList)) (getD (changesOf c) k noChange) ≡ true
 
-  -- unique_destinations
+  -- unique_destinations: no two are equal
   abbrev pub UniqueDestinations : Type 0
-  UniqueDestinations =
-      (i j : ℕ) → i < j → j < length (destinations (changesOf c)) → twins (destinations (changesOf c)) i j ≡ false
+  UniqueDestinations = Apart (destinations (changesOf c)) (length (destinations (changesOf c)))
 
-  -- postings.disjoint(destinations)
+  -- postings.disjoint(destinations): none stands in the table
   abbrev pub Disjoint : Type 0
   Disjoint =
       (k : ℕ) → k < length (destinations (changesOf c)) →
@@ -48,13 +49,15 @@ module _ (head : Head) (table : List ℕ) (c : Call) where
       (i : ℕ) → i < length (c .recordList) →
       (recordable (changesOf c) (getD (c .recordList) i 0) ≡ true) × (Repeated (c .recordList) i → ⊥)
 
-  -- upstream's sets destinations, sources and recorded
+  -- upstream's set destinations
   abbrev pub destinationSet : List Posting
   destinationSet = postingsOf (destinations (changesOf c))
 
+  -- its set sources
   abbrev pub sourceSet : List Posting
   sourceSet = postingsOf (sources (changesOf c))
 
+  -- its set recorded
   abbrev pub recordedSet : List Posting
   recordedSet = postingsOf (recorded (changesOf c) (c .recordList))
 

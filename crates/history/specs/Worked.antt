@@ -26,13 +26,15 @@ abbrev pub call : List ℕ → List ℕ → Call
 call cs strip =
     record { changeList = cs; guardList = 0 ∷ 5 ∷ 0 ∷ 6 ∷ []; strip = strip; recordList = 77 ∷ 77 ∷ [] }
 
--- rows 1 and 2 come under key 5, row 1 moves to key 6, row 3 comes under key 6
+-- rows 1 and 2 come under key 5
 abbrev pub two-come : List ℕ
 two-come = 0 ∷ 1 ∷ 0 ∷ 0 ∷ 1 ∷ 5 ∷ 0 ∷ 2 ∷ 0 ∷ 0 ∷ 1 ∷ 5 ∷ []
 
+-- row 1 moves from key 5 to key 6
 abbrev pub one-moves : List ℕ
 one-moves = 0 ∷ 1 ∷ 1 ∷ 5 ∷ 1 ∷ 6 ∷ []
 
+-- row 3 comes under key 6
 abbrev pub three-comes : List ℕ
 three-comes = 0 ∷ 3 ∷ 0 ∷ 0 ∷ 1 ∷ 6 ∷ []
 
@@ -48,6 +50,7 @@ bad =
     ∷ call three-comes []
     ∷ []
 
+-- the numbers that the operator saw
 abbrev pub answersOf : List Outcome → List ℕ
 answersOf os = map (λ (o : Outcome). toldOf (o .answer) .answer) os
 

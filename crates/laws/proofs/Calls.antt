@@ -84,12 +84,12 @@ module _ (head : Head) (table : List ℕ) (c : Call) where
       go o (Removes.halted e r k) u = not-unchanged (o .answer) _ u (ap (λ (x : Outcome). x .answer) k ∙ r .answers) refl
 
   -- the postings that each call shows are sound
-  start-sound : wellFormed head table ≡ true → Sound (head .bindings) (capacity table) (start head table c)
+  start-sound : wellFormed head table ≡ true → Sound (head .bindings) (capacity table) (start head table)
   start-sound h = sound-postings head table (well-formed-parts head table h)
 
   prepared-sound : Clear head table c → Sound (head .bindings) (capacity table) (prepared head table c .postings)
   prepared-sound k =
-      prepare-sound (head .bindings) (capacity table) (c .strip) (going head table c) [] 0 (start head table c) (k .bound) (start-sound (k .formed))
+      prepare-sound (head .bindings) (capacity table) (c .strip) (going c) [] 0 (start head table) (k .bound) (start-sound (k .formed))
 
   prepare-shows :
       prepareChecks head table c ≡ Verdict.Passes → Sound (head .bindings) (capacity table) (prepared head table c .postings)
@@ -98,23 +98,23 @@ module _ (head : Head) (table : List ℕ) (c : Call) where
   rollback-shows :
       rollbackChecks head table c ≡ Verdict.Passes → Sound (head .bindings) (capacity table) (undid head table c .postings)
   rollback-shows e =
-      undo-sound (head .bindings) (capacity table) (c .strip) (recordedBack head table c) Verdict.Passes 0 (start head table c)
+      undo-sound (head .bindings) (capacity table) (c .strip) (recordedBack c) Verdict.Passes 0 (start head table)
       (start-sound (rollback-formed head table c e .0))
 
   removal-shows :
       removalChecks head table c ≡ Verdict.Passes →
       Sound (head .bindings) (capacity table) (removedAlone head table c .postings)
   removal-shows e =
-      remove-sound (c .strip) (Answer.Accepted 0) (head .bindings) (capacity table) (leaving head table c) 0 (start head table c)
+      remove-sound (c .strip) (Answer.Accepted 0) (head .bindings) (capacity table) (leaving c) 0 (start head table)
       (start-sound (removal-formed head table c e .0))
 
   publish-shows :
       publishChecks head table c ≡ Verdict.Passes →
-      Sound (head .bindings) (capacity table) (thenSources (c .strip) (leaving head table c) (prepared head table c) .postings)
+      Sound (head .bindings) (capacity table) (thenSources (c .strip) (leaving c) (prepared head table c) .postings)
   publish-shows e =
       let s = prepared-sound (publish-clear head table c e) in
       by-cases (λ (t : Stage). Sound (head .bindings) (capacity table) (t .postings)) (isAccepted (prepared head table c .answer))
-      (λ a. remove-sound (c .strip) _ (head .bindings) (capacity table) (leaving head table c) _ _ s)
+      (λ a. remove-sound (c .strip) _ (head .bindings) (capacity table) (leaving c) _ _ s)
       (λ a. s)
 
   -- so a well-formed table stays well formed
@@ -142,7 +142,7 @@ module _ (head : Head) (table : List ℕ) (c : Call) where
   pub publish-well-formed : StaysWellFormed head table (publishOf head table c)
   unfolding publishOf
   publish-well-formed h =
-      decided-well-formed (publishChecks head table c) _ (thenSources (c .strip) (leaving head table c) (prepared head table c)) publish-shows h
+      decided-well-formed (publishChecks head table c) _ (thenSources (c .strip) (leaving c) (prepared head table c)) publish-shows h
 
   -- and binding count and size stay at every answer, and the poison flag at all but 12 and 13
   decided-stable :
@@ -174,7 +174,7 @@ module _ (head : Head) (table : List ℕ) (c : Call) where
   pub publish-stable : Stable head table (publishOf head table c)
   unfolding publishOf
   publish-stable =
-      decided-stable (publishChecks head table c) _ (thenSources (c .strip) (leaving head table c) (prepared head table c)) (publish-proper head table c) publish-shows
+      decided-stable (publishChecks head table c) _ (thenSources (c .strip) (leaving c) (prepared head table c)) (publish-proper head table c) publish-shows
 
   -- a poisoned table is refused with 2 by every call, and nothing changes
   pub prepare-poisoned : RefusesPoisoned head table c (prepareOf head table c)

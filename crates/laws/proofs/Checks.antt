@@ -147,39 +147,34 @@ module _ (head : Head) (table : List ℕ) (c : Call) where
   unfolding overlapCheck
   proper-9 = proper-failing _ _ 0 (sources (changesOf c)) λ k x. refl
 
-  -- and the checks of each call together
+  -- and the checks of each call together: all begin with 1 to 4, prepare and publish with 1 to 8
+  proper-opening :
+      (vs : List Verdict) → isProper (firstRefusal vs) ≡ true →
+      isProper (firstRefusal (tableCheck head table ∷ poisonCheck head ∷ listCheck c ∷ stripCheck c ∷ vs)) ≡ true
+  proper-opening vs h =
+      proper-cons _ _ proper-1 (proper-cons _ _ proper-2 (proper-cons _ _ proper-3 (proper-cons _ _ proper-4 h)))
+
+  proper-inserting :
+      (vs : List Verdict) → isProper (firstRefusal vs) ≡ true →
+      isProper (firstRefusal (roomCheck c ∷ guardCheck head c ∷ twiceCheck c ∷ presentCheck head table c ∷ vs)) ≡ true
+  proper-inserting vs h =
+      proper-cons _ _ proper-5 (proper-cons _ _ proper-6 (proper-cons _ _ proper-7 (proper-cons _ _ proper-8 h)))
+
   pub prepare-proper : isProper (prepareChecks head table c) ≡ true
   unfolding prepareChecks
-  prepare-proper =
-      proper-cons _ _ proper-1
-      (proper-cons _ _ proper-2
-      (proper-cons _ _ proper-3
-      (proper-cons _ _ proper-4
-      (proper-cons _ _ proper-5 (proper-cons _ _ proper-6 (proper-cons _ _ proper-7 (proper-cons _ _ proper-8 proper-none)))))))
+  prepare-proper = proper-opening _ (proper-inserting [] proper-none)
 
   pub rollback-proper : isProper (rollbackChecks head table c) ≡ true
   unfolding rollbackChecks
-  rollback-proper =
-      proper-cons _ _ proper-1
-      (proper-cons _ _ proper-2
-      (proper-cons _ _ proper-3 (proper-cons _ _ proper-4 (proper-cons _ _ proper-6 (proper-cons _ _ proper-14 proper-none)))))
+  rollback-proper = proper-opening _ (proper-cons _ _ proper-6 (proper-cons _ _ proper-14 proper-none))
 
   pub removal-proper : isProper (removalChecks head table c) ≡ true
   unfolding removalChecks
-  removal-proper =
-      proper-cons _ _ proper-1
-      (proper-cons _ _ proper-2 (proper-cons _ _ proper-3 (proper-cons _ _ proper-4 (proper-cons _ _ proper-6 proper-none))))
+  removal-proper = proper-opening _ (proper-cons _ _ proper-6 proper-none)
 
   pub publish-proper : isProper (publishChecks head table c) ≡ true
   unfolding publishChecks
-  publish-proper =
-      proper-cons _ _ proper-1
-      (proper-cons _ _ proper-2
-      (proper-cons _ _ proper-3
-      (proper-cons _ _ proper-4
-      (proper-cons _ _ proper-5
-      (proper-cons _ _ proper-6
-      (proper-cons _ _ proper-7 (proper-cons _ _ proper-8 (proper-cons _ _ proper-9 proper-none))))))))
+  publish-proper = proper-opening _ (proper-inserting _ (proper-cons _ _ proper-9 proper-none))
 
 -- what a check refuses with
 pub refuses : (v : Verdict) (a : Answer) → isProper v ≡ true → v ≡ Verdict.Refused a → isRefusal a ≡ true

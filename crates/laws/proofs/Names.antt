@@ -77,8 +77,8 @@ failing-names none test answer i (x ∷ xs) a h = go (test x) refl (failing-name
         earlier m f zero l = e
         earlier m f (suc k) l = f k (omega arith)
 
--- 6, 8 and 9
-module _ (head : Head) (table : List ℕ) (c : Call) where
+-- 6
+module _ (head : Head) (c : Call) where
   pub guard-passes :
       guardCheck head c ≡ Verdict.Passes → (k : ℕ) → k < length (changesOf c) →
       guarded (head .bindings) (guards (c .guardList)) (getD (changesOf c) k noChange) ≡ true
@@ -93,6 +93,8 @@ module _ (head : Head) (table : List ℕ) (c : Call) where
       let n = failing-names noChange _ _ 0 (changesOf c) a h in
       (n .at, n .first, n .names ∙ ap Answer.Guard (zero-add (n .at)))
 
+-- 8
+module _ (head : Head) (table : List ℕ) (c : Call) where
   pub present-passes :
       presentCheck head table c ≡ Verdict.Passes → (k : ℕ) → k < length (destinations (changesOf c)) →
       present (getD (destinations (changesOf c)) k nowhere .posting) (postings (head .used) table) ≡ false
@@ -107,6 +109,8 @@ module _ (head : Head) (table : List ℕ) (c : Call) where
       let n = failing-names nowhere _ _ 0 (destinations (changesOf c)) a h in
       (n .at, n .first, n .names)
 
+-- 9
+module _ (c : Call) where
   pub overlap-passes :
       overlapCheck c ≡ Verdict.Passes → (k : ℕ) → k < length (sources (changesOf c)) →
       present (getD (sources (changesOf c)) k nowhere .posting) (postingsOf (destinations (changesOf c))) ≡ false
@@ -121,8 +125,7 @@ module _ (head : Head) (table : List ℕ) (c : Call) where
       let n = failing-names nowhere _ _ 0 (sources (changesOf c)) a h in
       (n .at, n .first, n .names)
 
--- 7
--- the destination at place n, behind the earlier ones
+-- 7: the destination at place n, behind the earlier ones
 module _ (all earlier : List Numbered) (d : Numbered) (ds : List Numbered) (e : all ≡ earlier ++ d ∷ ds) where
   at-earlier : (k : ℕ) → k < length earlier → getD all k nowhere ≡ getD earlier k nowhere
   at-earlier k h = rw e (List·getD-append earlier (d ∷ ds) nowhere k h)

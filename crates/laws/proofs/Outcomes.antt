@@ -1,5 +1,5 @@
 -- How each call ends, seen on the lent table. Every law about whole calls goes by these cases.
-use Prim.Native.Nat.{ℕ, _+_}
+use Prim.Native.Nat.{ℕ}
 use native.Mathlib.Omega.{arith}
 use mathlib.Core.Path.{_≡_, refl, ap, _∙_}
 use mathlib.Core.List.{List, [], reverse}
@@ -11,12 +11,12 @@ use Rattle.rules.specs.declared.Head.{Head}
 use Rattle.rules.specs.declared.Answer.{Answer}
 use Rattle.rules.specs.declared.Verdict.{Verdict}
 use Rattle.rules.specs.Table.{capacity, postings, laidOut, wellFormed}
-use Rattle.rules.specs.Orders.{Numbered, destinations, sources, numbersOf, recorded, byteAt}
+use Rattle.rules.specs.Orders.{Numbered, destinations, sources, numbersOf, recorded}
 use Rattle.rules.specs.Answers.{isAccepted, poisons}
 use Rattle.rules.specs.Checks.{Call, changesOf, prepareChecks, rollbackChecks, removalChecks, publishChecks}
 use Rattle.rules.specs.Publication.{Undone, undoing, Stage, removing, rolledBack, thenSources}
 use Rattle.rules.specs.Calls.{headWith, Outcome, asBefore, decided, shown, written, recordAfter, prepared, prepareOf, rollbackOf, removalOf, publishOf}
-use Rattle.laws.specs.Words.{added, takenAway, numberAt}
+use Rattle.laws.specs.Words.{added, takenAway}
 use Rattle.laws.proofs.Flat.{well-formed-parts, used-postings, laid-out-same}
 use Rattle.laws.proofs.Undo.{UndoClean, UndoFailed, undo-runs}
 use Rattle.laws.proofs.Prepare.{Ready, Cause, store, full, Stopped, prepare-runs}
@@ -38,43 +38,52 @@ pub cause-poisons-not : (byte used size change : ℕ) (why : Answer) → Cause b
 cause-poisons-not byte used size change why (store h) = refl
 cause-poisons-not byte used size change why (full h k) = refl
 
+pub cause-accepts-not : (byte used size change : ℕ) (why : Answer) → Cause byte used size change why → isAccepted why ≡ false
+cause-accepts-not byte used size change why (store h) = refl
+cause-accepts-not byte used size change why (full h k) = refl
+
+-- the postings at the start of a call, and what its changes bring, take and, by its record, take back
+abbrev pub start : Head → List ℕ → List Posting
+start head table = postings (head .used) table
+
+abbrev pub going : Call → List Numbered
+going c = destinations (changesOf c)
+
+abbrev pub leaving : Call → List Numbered
+leaving c = sources (changesOf c)
+
+-- from the end of the record to its start
+abbrev pub recordedBack : Call → List Numbered
+recordedBack c = reverse (recorded (changesOf c) (c .recordList))
+
 module _ (head : Head) (table : List ℕ) (c : Call) where
-  abbrev pub start : List Posting
-  start = postings (head .used) table
-
-  abbrev pub going : List Numbered
-  going = destinations (changesOf c)
-
-  abbrev pub leaving : List Numbered
-  leaving = sources (changesOf c)
-
   -- prepare has inserted every destination, or has stopped at one
   abbrev pub IsReady : Type 0
-  IsReady = Ready (capacity table) (c .strip) going [] 0 start (prepared head table c)
+  IsReady = Ready (capacity table) (c .strip) (going c) [] 0 (start head table) (prepared head table c)
 
   abbrev pub IsStopped : Type 0
-  IsStopped = Stopped (capacity table) (c .strip) start going 0 0 (length start) (prepared head table c)
+  IsStopped = Stopped (capacity table) (c .strip) (start head table) (going c) 0 0 (length (start head table)) (prepared head table c)
 
   -- what an accepted publish answers and leaves
   abbrev pub accepted : Outcome
   accepted =
-      shown head table (written (numbersOf going) (c .recordList))
-      (record { answer = Answer.Accepted (length going); postings = takenAway leaving (added going start); read = 0 })
+      shown head table (written (numbersOf (going c)) (c .recordList))
+      (record { answer = Answer.Accepted (length (going c)); postings = takenAway (leaving c) (added (going c) (start head table)); read = 0 })
 
   -- its source removal
   abbrev pub sourcesGone : Stage
-  sourcesGone = removing (c .strip) (Answer.Accepted (length going)) leaving (length going) (added going start)
+  sourcesGone = removing (c .strip) (Answer.Accepted (length (going c))) (leaving c) (length (going c)) (added (going c) (start head table))
 
   pub data Published (o : Outcome) : Type 0 where
     refused :
         (a : Answer) → publishChecks head table c ≡ Verdict.Refused a → o ≡ asBefore head table (c .recordList) a → Published o
     taken :
         publishChecks head table c ≡ Verdict.Passes → IsReady →
-        Cleared (c .strip) (Answer.Accepted (length going)) leaving (length going) (added going start) sourcesGone →
+        Cleared (c .strip) (Answer.Accepted (length (going c))) (leaving c) (length (going c)) (added (going c) (start head table)) sourcesGone →
         o ≡ accepted → Published o
     halted :
-        publishChecks head table c ≡ Verdict.Passes → IsReady → Halted (c .strip) leaving (length going) sourcesGone →
-        o ≡ shown head table (written (numbersOf going) (c .recordList)) sourcesGone → Published o
+        publishChecks head table c ≡ Verdict.Passes → IsReady → Halted (c .strip) (leaving c) (length (going c)) sourcesGone →
+        o ≡ shown head table (written (numbersOf (going c)) (c .recordList)) sourcesGone → Published o
     stopped :
         publishChecks head table c ≡ Verdict.Passes → IsStopped → o ≡ shown head table (c .recordList) (prepared head table c) →
         Published o
@@ -85,36 +94,25 @@ module _ (head : Head) (table : List ℕ) (c : Call) where
       let w = well-formed-parts head table (k .formed) in
       let u = used-postings head table w in
       let r = w .room in
-      prepare-runs (capacity table) (c .strip) start going [] 0 start (k .fresh) refl (omega arith)
+      prepare-runs (capacity table) (c .strip) (start head table) (going c) [] 0 (start head table) (k .fresh) refl (omega arith)
 
   pub stop-not-accepted : IsStopped → isAccepted (prepared head table c .answer) ≡ false
-  stop-not-accepted s = ⊎-elim (λ b. rw (b .answers) (other (s .cause))) (λ b. rw (b .answers)) (s .undo)
-    where
-      other :
-          Cause (byteAt (c .strip) (0 + s .at)) (length start + s .at) (capacity table) (numberAt going (s .at)) (s .why) →
-          isAccepted (s .why) ≡ false
-      other k = go (s .why) k
-        where
-          go :
-              (a : Answer) →
-              Cause (byteAt (c .strip) (0 + s .at)) (length start + s .at) (capacity table) (numberAt going (s .at)) a →
-              isAccepted a ≡ false
-          go a (store h) = refl
-          go a (full h l) = refl
+  stop-not-accepted s =
+      ⊎-elim (λ b. rw (b .answers) (cause-accepts-not _ _ _ _ (s .why) (s .cause))) (λ b. rw (b .answers)) (s .undo)
 
-  ready-sources : IsReady → thenSources (c .strip) leaving (prepared head table c) ≡ sourcesGone
+  ready-sources : IsReady → thenSources (c .strip) (leaving c) (prepared head table c) ≡ sourcesGone
   ready-sources r =
-      let a : prepared head table c .answer ≡ Answer.Accepted (length going) = r .answers ∙ ap Answer.Accepted (omega arith) in
-      let n : prepared head table c .read ≡ length going = let k = r .reads in omega arith in
+      let a : prepared head table c .answer ≡ Answer.Accepted (length (going c)) = r .answers ∙ ap Answer.Accepted (omega arith) in
+      let n : prepared head table c .read ≡ length (going c) = let k = r .reads in omega arith in
       rw (a, r .leaves, n)
 
-  ready-record : IsReady → recordAfter (prepared head table c) going (c .recordList) ≡ written (numbersOf going) (c .recordList)
+  ready-record : IsReady → recordAfter (prepared head table c) (going c) (c .recordList) ≡ written (numbersOf (going c)) (c .recordList)
   ready-record r = rw (r .answers)
 
   cleared-accepted :
       (list : List ℕ) →
-      Cleared (c .strip) (Answer.Accepted (length going)) leaving (length going) (added going start) sourcesGone →
-      shown head table list sourcesGone ≡ shown head table list (record { answer = Answer.Accepted (length going); postings = takenAway leaving (added going start); read = 0 })
+      Cleared (c .strip) (Answer.Accepted (length (going c))) (leaving c) (length (going c)) (added (going c) (start head table)) sourcesGone →
+      shown head table list sourcesGone ≡ shown head table list (record { answer = Answer.Accepted (length (going c)); postings = takenAway (leaving c) (added (going c) (start head table)); read = 0 })
   cleared-accepted list k = rw (k .answers, k .leaves)
 
   pub published : Published (publishOf head table c)
@@ -123,21 +121,21 @@ module _ (head : Head) (table : List ℕ) (c : Call) where
     where
       go :
           (v : Verdict) → publishChecks head table c ≡ v →
-          Published (decided v (asBefore head table (c .recordList)) (shown head table (recordAfter (prepared head table c) going (c .recordList)) (thenSources (c .strip) leaving (prepared head table c))))
+          Published (decided v (asBefore head table (c .recordList)) (shown head table (recordAfter (prepared head table c) (going c) (c .recordList)) (thenSources (c .strip) (leaving c) (prepared head table c))))
       go (Verdict.Refused a) e = Published.refused a e refl
       go Verdict.Passes e = ⊎-elim ready stop (prepared-runs (publish-clear head table c e))
         where
           ready :
               IsReady →
-              Published (shown head table (recordAfter (prepared head table c) going (c .recordList)) (thenSources (c .strip) leaving (prepared head table c)))
+              Published (shown head table (recordAfter (prepared head table c) (going c) (c .recordList)) (thenSources (c .strip) (leaving c) (prepared head table c)))
           ready r =
               rw (ready-sources r, ready-record r)
-              (⊎-elim (λ k. Published.taken e r k (cleared-accepted (written (numbersOf going) (c .recordList)) k)) (λ k. Published.halted e r k refl)
-              (remove-runs (c .strip) (Answer.Accepted (length going)) leaving (length going) (added going start)))
+              (⊎-elim (λ k. Published.taken e r k (cleared-accepted (written (numbersOf (going c)) (c .recordList)) k)) (λ k. Published.halted e r k refl)
+              (remove-runs (c .strip) (Answer.Accepted (length (going c))) (leaving c) (length (going c)) (added (going c) (start head table))))
 
           stop :
               IsStopped →
-              Published (shown head table (recordAfter (prepared head table c) going (c .recordList)) (thenSources (c .strip) leaving (prepared head table c)))
+              Published (shown head table (recordAfter (prepared head table c) (going c) (c .recordList)) (thenSources (c .strip) (leaving c) (prepared head table c)))
           stop s = rw (stop-not-accepted s) (Published.stopped e s refl)
 
   pub data Prepares (o : Outcome) : Type 0 where
@@ -145,7 +143,7 @@ module _ (head : Head) (table : List ℕ) (c : Call) where
         (a : Answer) → prepareChecks head table c ≡ Verdict.Refused a → o ≡ asBefore head table (c .recordList) a → Prepares o
     ready :
         prepareChecks head table c ≡ Verdict.Passes → IsReady →
-        o ≡ shown head table (written (numbersOf going) (c .recordList)) (prepared head table c) → Prepares o
+        o ≡ shown head table (written (numbersOf (going c)) (c .recordList)) (prepared head table c) → Prepares o
     stopped :
         prepareChecks head table c ≡ Verdict.Passes → IsStopped → o ≡ shown head table (c .recordList) (prepared head table c) →
         Prepares o
@@ -156,26 +154,23 @@ module _ (head : Head) (table : List ℕ) (c : Call) where
     where
       go :
           (v : Verdict) → prepareChecks head table c ≡ v →
-          Prepares (decided v (asBefore head table (c .recordList)) (shown head table (recordAfter (prepared head table c) going (c .recordList)) (prepared head table c)))
+          Prepares (decided v (asBefore head table (c .recordList)) (shown head table (recordAfter (prepared head table c) (going c) (c .recordList)) (prepared head table c)))
       go (Verdict.Refused a) e = Prepares.refused a e refl
       go Verdict.Passes e =
           ⊎-elim (λ r. Prepares.ready e r (rw (r .answers))) (λ s. Prepares.stopped e s (rw (stop-not-accepted s))) (prepared-runs (prepare-clear head table c e))
 
-  -- rollback's run over its record, from the end to the start
-  abbrev pub recordedBack : List Numbered
-  recordedBack = reverse (recorded (changesOf c) (c .recordList))
-
+  -- rollback's run over its record
   abbrev pub undid : Undone
-  undid = undoing (c .strip) recordedBack Verdict.Passes 0 start
+  undid = undoing (c .strip) (recordedBack c) Verdict.Passes 0 (start head table)
 
   pub data RollsBack (o : Outcome) : Type 0 where
     refused :
         (a : Answer) → rollbackChecks head table c ≡ Verdict.Refused a → o ≡ asBefore head table (c .recordList) a → RollsBack o
     clean :
-        rollbackChecks head table c ≡ Verdict.Passes → UndoClean (c .strip) recordedBack Verdict.Passes 0 start undid →
+        rollbackChecks head table c ≡ Verdict.Passes → UndoClean (c .strip) (recordedBack c) Verdict.Passes 0 (start head table) undid →
         o ≡ shown head table (c .recordList) (rolledBack undid) → RollsBack o
     failed :
-        rollbackChecks head table c ≡ Verdict.Passes → UndoFailed (c .strip) recordedBack 0 undid →
+        rollbackChecks head table c ≡ Verdict.Passes → UndoFailed (c .strip) (recordedBack c) 0 undid →
         o ≡ shown head table (c .recordList) (rolledBack undid) → RollsBack o
 
   pub rolls-back : RollsBack (rollbackOf head table c)
@@ -187,20 +182,20 @@ module _ (head : Head) (table : List ℕ) (c : Call) where
           RollsBack (decided v (asBefore head table (c .recordList)) (shown head table (c .recordList) (rolledBack undid)))
       go (Verdict.Refused a) e = RollsBack.refused a e refl
       go Verdict.Passes e =
-          ⊎-elim (λ k. RollsBack.clean e k refl) (λ k. RollsBack.failed e k refl) (undo-runs (c .strip) recordedBack Verdict.Passes 0 start)
+          ⊎-elim (λ k. RollsBack.clean e k refl) (λ k. RollsBack.failed e k refl) (undo-runs (c .strip) (recordedBack c) Verdict.Passes 0 (start head table))
 
   -- source removal alone
   abbrev pub removedAlone : Stage
-  removedAlone = removing (c .strip) (Answer.Accepted 0) leaving 0 start
+  removedAlone = removing (c .strip) (Answer.Accepted 0) (leaving c) 0 (start head table)
 
   pub data Removes (o : Outcome) : Type 0 where
     refused :
         (a : Answer) → removalChecks head table c ≡ Verdict.Refused a → o ≡ asBefore head table (c .recordList) a → Removes o
     cleared :
-        removalChecks head table c ≡ Verdict.Passes → Cleared (c .strip) (Answer.Accepted 0) leaving 0 start removedAlone →
+        removalChecks head table c ≡ Verdict.Passes → Cleared (c .strip) (Answer.Accepted 0) (leaving c) 0 (start head table) removedAlone →
         o ≡ shown head table (c .recordList) removedAlone → Removes o
     halted :
-        removalChecks head table c ≡ Verdict.Passes → Halted (c .strip) leaving 0 removedAlone →
+        removalChecks head table c ≡ Verdict.Passes → Halted (c .strip) (leaving c) 0 removedAlone →
         o ≡ shown head table (c .recordList) removedAlone → Removes o
 
   pub removes : Removes (removalOf head table c)
@@ -212,4 +207,4 @@ module _ (head : Head) (table : List ℕ) (c : Call) where
           Removes (decided v (asBefore head table (c .recordList)) (shown head table (c .recordList) removedAlone))
       go (Verdict.Refused a) e = Removes.refused a e refl
       go Verdict.Passes e =
-          ⊎-elim (λ k. Removes.cleared e k refl) (λ k. Removes.halted e k refl) (remove-runs (c .strip) (Answer.Accepted 0) leaving 0 start)
+          ⊎-elim (λ k. Removes.cleared e k refl) (λ k. Removes.halted e k refl) (remove-runs (c .strip) (Answer.Accepted 0) (leaving c) 0 (start head table))

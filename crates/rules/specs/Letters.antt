@@ -26,6 +26,7 @@ seen o =
       recordList = o .recordList;
     }
 
+-- a row by its numbers; its answer names one value
 unfoldable pub row : ℕ → ℕ → ℕ → ℕ → List ℕ → List ℕ → Row
 row answer change used poisoned table list =
     record {
@@ -43,28 +44,35 @@ order table cs strip =
     (publishOf (record { bindings = 2; used = 2; poisoned = 0 }) table
     (record { changeList = cs; guardList = 0 ∷ 5 ∷ 0 ∷ 6 ∷ 1 ∷ 9 ∷ []; strip = strip; recordList = 77 ∷ 77 ∷ 77 ∷ [] }))
 
+-- the table of the orders cut to six numbers: (0,5,1), (0,5,2)
 abbrev pub short : List ℕ
 short = 0 ∷ 5 ∷ 1 ∷ 0 ∷ 5 ∷ 2 ∷ []
 
+-- and whole, with two free places
 abbrev pub whole : List ℕ
 whole = 0 ∷ 5 ∷ 1 ∷ 0 ∷ 5 ∷ 2 ∷ 0 ∷ 0 ∷ 0 ∷ 0 ∷ 0 ∷ 0 ∷ []
 
--- A moves a row, B takes one away, C brings three where there is room for two, F moves two, K takes away what it brings
+-- moves a row
 abbrev pub changes-A : List ℕ
 changes-A = 0 ∷ 1 ∷ 1 ∷ 5 ∷ 1 ∷ 6 ∷ []
 
+-- takes one away
 abbrev pub changes-B : List ℕ
 changes-B = 0 ∷ 1 ∷ 1 ∷ 5 ∷ 0 ∷ 0 ∷ []
 
+-- brings three where there is room for two
 abbrev pub changes-C : List ℕ
 changes-C = 1 ∷ 7 ∷ 0 ∷ 0 ∷ 1 ∷ 9 ∷ 1 ∷ 8 ∷ 0 ∷ 0 ∷ 1 ∷ 9 ∷ 1 ∷ 9 ∷ 0 ∷ 0 ∷ 1 ∷ 9 ∷ []
 
+-- moves two
 abbrev pub changes-F : List ℕ
 changes-F = 0 ∷ 1 ∷ 1 ∷ 5 ∷ 1 ∷ 6 ∷ 0 ∷ 2 ∷ 1 ∷ 5 ∷ 1 ∷ 6 ∷ []
 
+-- takes away what it brings
 abbrev pub changes-K : List ℕ
 changes-K = 0 ∷ 3 ∷ 0 ∷ 0 ∷ 1 ∷ 6 ∷ 0 ∷ 3 ∷ 1 ∷ 6 ∷ 0 ∷ 0 ∷ []
 
+-- the record list as it was lent
 abbrev pub untouched : List ℕ
 untouched = 77 ∷ 77 ∷ 77 ∷ []
 
