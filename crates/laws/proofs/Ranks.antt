@@ -105,6 +105,10 @@ pub after-before : (p q : Posting) → compared p q ≡ Order.After → compared
 unfolding turned
 after-before p q h = compared-turned p q ∙ ap turned h
 
+pub before-after : (p q : Posting) → compared p q ≡ Order.Before → compared q p ≡ Order.After
+unfolding turned
+before-after p q e = compared-turned p q ∙ ap turned e
+
 pub before-before : (p q r : Posting) → compared p q ≡ Order.Before → compared q r ≡ Order.Before → compared p r ≡ Order.Before
 unfolding compared
 before-before p q r h k =

@@ -16,7 +16,7 @@ pub chain-rest : (p q : Posting) (qs : List Posting) → chain p (q ∷ qs) ≡ 
 unfolding chain
 chain-rest p q qs h = and-right (isBefore (compared p q)) (chain q qs) h
 
-chain-cons : (p q : Posting) (qs : List Posting) → compared p q ≡ Order.Before → chain q qs ≡ true → chain p (q ∷ qs) ≡ true
+pub chain-cons : (p q : Posting) (qs : List Posting) → compared p q ≡ Order.Before → chain q qs ≡ true → chain p (q ∷ qs) ≡ true
 unfolding chain
 chain-cons p q qs e h = both (isBefore (compared p q)) (chain q qs) (ap isBefore e) h
 

@@ -1,0 +1,2 @@
+-- What the contracts of `checks` speak of.
+pub mod Walks

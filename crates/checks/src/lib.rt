@@ -1,0 +1,365 @@
+// The walks over what an order lends: change list, guards, strip and record; answers 3, 4, 6, 7, 8, 9 and 14. Each looks at its
+// whole list before the next begins. An inner layer, not delivered: the walks that name a change ask for a list that answer 3
+// has passed.
+use changes::change_at;
+use changes::count_of;
+use changes::destination_of;
+use changes::source_of;
+use rules::Answer;
+use rules::Change;
+use rules::Key;
+use rules::Posting;
+use rules::Verdict;
+ghost use Prim.Native.Nat.{ℕ, _*_, _+_, _<_, _≤_};
+ghost use mathlib.Core.Path.{_≡_};
+ghost use mathlib.Core.List.{[]};
+ghost use mathlib.Core.Bool.{not, _&&_};
+ghost use lib.ListN.{length, take, drop, getD};
+ghost use lib.Dec.{ltb};
+ghost use Rattle.rules.specs.declared.Answer.{Answer};
+ghost use Rattle.rules.specs.Limits.{mostChanges};
+ghost use Rattle.rules.specs.Postings.{present};
+ghost use Rattle.rules.specs.Table.{postings};
+ghost use Rattle.rules.specs.Orders.{properKey, properChanges, properLists, properStrip, guards, changes, held, destinationOf, destinations, sources, noChange, Numbered, postingsOf};
+ghost use Rattle.rules.specs.Checks.{firstFailing, heldKey, guarded, isNamed, recordable, among, recordFrom, twiceFrom};
+ghost use Rattle.table.specs.Holding.{Held};
+ghost use Rattle.checks.specs.Walks.{goesTo, oneDestination, arrivesIn, leavesIn};
+
+// The limits that the code tests: the rules' own numbers.
+pub const MOST_CHANGES: usize = 256;
+
+pub const MOST_GUARDS: usize = 1024;
+
+pub const MOST_BYTES: usize = 1024;
+
+// A flag is 0 or 1; with flag 0 the key is 0.
+fn proper_key(flag: u32, key: u32) -> bool
+    ensures { λ r. ⌜ r ≡ properKey flag key ⌝ }
+{
+    if flag == 0 {
+        return key == 0;
+    }
+    flag == 1
+}
+
+// Both keys of the change that begins at a place.
+fn proper_keys(list: &[u32], first: usize) -> bool
+    requires { ⌜ first + 6 ≤ length (now list) ⌝ }
+    ensures { λ r. ⌜ r ≡ (properKey (getD (now (list .entry)) (first + 2) 0) (getD (now (list .entry)) (first + 3) 0)
+        && properKey (getD (now (list .entry)) (first + 4) 0) (getD (now (list .entry)) (first + 5) 0)) ⌝ }
+{
+    if proper_key(list[first + 2], list[first + 3]) {
+        return proper_key(list[first + 4], list[first + 5]);
+    }
+    false
+}
+
+// Whole changes, and each flag and key as it must be.
+fn proper_changes(list: &[u32]) -> bool
+    ensures { λ r. ⌜ r ≡ properChanges (now (list .entry)) ⌝ }
+{
+    if list.len() % 6 != 0 {
+        return false;
+    }
+    let mut first = 0;
+    while first < list.len() {
+        if proper_keys(list, first) {
+            first += 6;
+        } else {
+            return false;
+        }
+    }
+    true
+}
+
+// 3 LIST passes. Lengths come first, so that a list of any length is judged at once.
+pub fn proper_lists(list: &[u32], pairs: &[u32]) -> bool
+    ensures { λ r. ⌜ r ≡ properLists (now (list .entry)) (now (pairs .entry)) ⌝ }
+{
+    if count_of(list) > MOST_CHANGES {
+        return false;
+    }
+    if pairs.len() % 2 != 0 {
+        return false;
+    }
+    if pairs.len() / 2 > MOST_GUARDS {
+        return false;
+    }
+    proper_changes(list)
+}
+
+// 4 STRIP passes: not over its limit, and no byte above 2.
+pub fn proper_strip(strip: &[u8]) -> bool
+    ensures { λ r. ⌜ r ≡ properStrip (now (strip .entry)) ⌝ }
+{
+    if strip.len() > MOST_BYTES {
+        return false;
+    }
+    let mut i = 0;
+    while i < strip.len() {
+        if strip[i] > 2 {
+            return false;
+        }
+        i += 1;
+    }
+    true
+}
+
+// The pair (binding, key) is among the guards, which lie two numbers to each.
+fn is_held(pairs: &[u32], binding: u32, key: u32) -> bool
+    ensures { λ r. ⌜ r ≡ held binding key (guards (now (pairs .entry))) ⌝ }
+{
+    let n = pairs.len() / 2;
+    let mut i = 0;
+    while i < n {
+        if pairs[i * 2] == binding && pairs[i * 2 + 1] == key {
+            return true;
+        }
+        i += 1;
+    }
+    false
+}
+
+// A named key is held; none need not be.
+fn key_held(pairs: &[u32], binding: u32, key: Key) -> bool
+    ensures { λ r. ⌜ r ≡ heldKey binding key (guards (now (pairs .entry))) ⌝ }
+{
+    match key {
+        Key::Missing => true,
+        Key::Named(k) => is_held(pairs, binding, k),
+    }
+}
+
+// Its binding is below the count, and a named before and after are held.
+fn is_guarded(bindings: u32, pairs: &[u32], change: Change) -> bool
+    ensures { λ r. ⌜ r ≡ guarded bindings (guards (now (pairs .entry))) change ⌝ }
+{
+    if change.binding < bindings {
+        let before = change.before;
+        if key_held(pairs, change.binding, before) {
+            let after = change.after;
+            return key_held(pairs, change.binding, after);
+        }
+    }
+    false
+}
+
+// 6 GUARD: the first change that is not guarded.
+pub fn check_guards(bindings: u32, list: &[u32], pairs: &[u32]) -> Verdict
+    requires { ⌜ length (changes (now list)) ≤ mostChanges ⌝ }
+    ensures { λ r. ⌜ r ≡ firstFailing (guarded bindings (guards (now (pairs .entry)))) (λ i change. Answer.Guard i) 0 (changes (now (list .entry))) ⌝ }
+{
+    let n = count_of(list);
+    let mut i = 0;
+    while i < n {
+        if is_guarded(bindings, pairs, change_at(list, i)) {
+            i += 1;
+        } else {
+            return Verdict::Refused(Answer::Guard(i as u32));
+        }
+    }
+    Verdict::Passes
+}
+
+// The change has a destination.
+fn has_destination(change: Change) -> bool
+    ensures { λ r. ⌜ r ≡ isNamed (destinationOf change) ⌝ }
+{
+    match destination_of(change) {
+        Key::Missing => false,
+        Key::Named(_) => true,
+    }
+}
+
+// A number of a record means a destination.
+fn is_recordable(list: &[u32], number: u32) -> bool
+    ensures { λ r. ⌜ r ≡ recordable (changes (now (list .entry))) number ⌝ }
+{
+    let i = number as usize;
+    if i < count_of(list) {
+        return has_destination(change_at(list, i));
+    }
+    false
+}
+
+// The number stands in the record before this place.
+fn stands_earlier(record: &[u32], place: usize, number: u32) -> bool
+    requires { ⌜ place ≤ length (now «record») ⌝ }
+    ensures { λ r. ⌜ r ≡ among number (take place (now («record» .entry))) ⌝ }
+{
+    let mut i = 0;
+    while i < place {
+        if record[i] == number {
+            return true;
+        }
+        i += 1;
+    }
+    false
+}
+
+// 14 RECORD: the first place that means no destination, or whose number is already at an earlier place. No record is
+// longer than the change list without such a place among its first, so places fit a u32.
+pub fn check_record(list: &[u32], record: &[u32]) -> Verdict
+    requires { ⌜ length (changes (now list)) ≤ mostChanges ⌝ }
+    ensures { λ r. ⌜ r ≡ recordFrom 0 (changes (now (list .entry))) [] (now («record» .entry)) ⌝ }
+{
+    let mut place = 0;
+    while place < record.len() {
+        let number = record[place];
+        if is_recordable(list, number) {
+            if stands_earlier(record, place, number) {
+                return Verdict::Refused(Answer::Record(place as u32));
+            }
+            place += 1;
+        } else {
+            return Verdict::Refused(Answer::Record(place as u32));
+        }
+    }
+    Verdict::Passes
+}
+
+// The destination of a change is this posting.
+fn goes_to(list: &[u32], i: usize, p: Posting) -> bool
+    requires { ⌜ i < length (changes (now list)) ⌝ }
+    ensures { λ r. ⌜ r ≡ goesTo (getD (changes (now (list .entry))) i noChange) p ⌝ }
+{
+    let change = change_at(list, i);
+    let Key::Named(key) = destination_of(change) else {
+        return false;
+    };
+    table::equal(
+        Posting {
+            binding: change.binding,
+            key,
+            row: change.row,
+        },
+        p,
+    )
+}
+
+// Two changes have one destination.
+fn one_destination(list: &[u32], i: usize, j: usize) -> bool
+    requires { ⌜ (i < length (changes (now list))) × (j < length (changes (now list))) ⌝ }
+    ensures { λ r. ⌜ r ≡ oneDestination (getD (changes (now (list .entry))) i noChange) (getD (changes (now (list .entry))) j noChange) ⌝ }
+{
+    let change = change_at(list, j);
+    let Key::Named(key) = destination_of(change) else {
+        return false;
+    };
+    goes_to(
+        list,
+        i,
+        Posting {
+            binding: change.binding,
+            key,
+            row: change.row,
+        },
+    )
+}
+
+// 7 TWICE: the first two equal destinations in order of j, then i.
+pub fn check_twice(list: &[u32]) -> Verdict
+    requires { ⌜ length (changes (now list)) ≤ mostChanges ⌝ }
+    ensures { λ r. ⌜ r ≡ twiceFrom [] (destinations (changes (now (list .entry)))) ⌝ }
+{
+    let n = count_of(list);
+    let mut i = 0;
+    let mut j = 0;
+    'pairs: while j < n {
+        i = 0;
+        while i < j {
+            if one_destination(list, i, j) {
+                break 'pairs;
+            }
+            i += 1;
+        }
+        j += 1;
+    }
+    if j < n {
+        return Verdict::Refused(Answer::Twice(i as u32, j as u32));
+    }
+    Verdict::Passes
+}
+
+// The destination of a change stands in the table.
+fn is_present(table: &[u32], used: usize, change: Change) -> bool
+    requires { ⌜ Held (now table) used ⌝ }
+    ensures { λ r. ⌜ r ≡ arrivesIn change (postings used (now (table .entry))) ⌝ }
+{
+    let Key::Named(key) = destination_of(change) else {
+        return false;
+    };
+    table::stands(
+        table,
+        used,
+        Posting {
+            binding: change.binding,
+            key,
+            row: change.row,
+        },
+    )
+}
+
+// 8 PRESENT: the first destination that stands in the table.
+pub fn check_present(table: &[u32], used: usize, list: &[u32]) -> Verdict
+    requires { ⌜ Held (now table) used × (length (changes (now list)) ≤ mostChanges) ⌝ }
+    ensures { λ r. ⌜ r ≡ firstFailing (λ (d : Numbered). not (present (d .posting) (postings used (now (table .entry))))) (λ i d. Answer.Present (d .number)) 0 (destinations (changes (now (list .entry)))) ⌝ }
+{
+    let n = count_of(list);
+    let mut i = 0;
+    while i < n {
+        if is_present(table, used, change_at(list, i)) {
+            return Verdict::Refused(Answer::Present(i as u32));
+        }
+        i += 1;
+    }
+    Verdict::Passes
+}
+
+// The posting is a destination of the list.
+fn is_destination(list: &[u32], p: Posting) -> bool
+    ensures { λ r. ⌜ r ≡ present p (postingsOf (destinations (changes (now (list .entry))))) ⌝ }
+{
+    let n = count_of(list);
+    let mut i = 0;
+    while i < n {
+        if goes_to(list, i, p) {
+            return true;
+        }
+        i += 1;
+    }
+    false
+}
+
+// The source of a change is a destination of the list.
+fn overlaps(list: &[u32], change: Change) -> bool
+    ensures { λ r. ⌜ r ≡ leavesIn change (postingsOf (destinations (changes (now (list .entry))))) ⌝ }
+{
+    let Key::Named(key) = source_of(change) else {
+        return false;
+    };
+    is_destination(
+        list,
+        Posting {
+            binding: change.binding,
+            key,
+            row: change.row,
+        },
+    )
+}
+
+// 9 OVERLAP: the first source that is a destination of the list, its own change's or another's.
+pub fn check_overlap(list: &[u32]) -> Verdict
+    requires { ⌜ length (changes (now list)) ≤ mostChanges ⌝ }
+    ensures { λ r. ⌜ r ≡ firstFailing (λ (s : Numbered). not (present (s .posting) (postingsOf (destinations (changes (now (list .entry))))))) (λ i s. Answer.Overlap (s .number)) 0 (sources (changes (now (list .entry)))) ⌝ }
+{
+    let n = count_of(list);
+    let mut i = 0;
+    while i < n {
+        if overlaps(list, change_at(list, i)) {
+            return Verdict::Refused(Answer::Overlap(i as u32));
+        }
+        i += 1;
+    }
+    Verdict::Passes
+}

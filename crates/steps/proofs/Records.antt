@@ -1,0 +1,75 @@
+-- The record: the turns of the walk that writes it.
+use Prim.Native.Nat.{ℕ, suc, _+_, _<_, _≤_}
+use native.Mathlib.Omega.{arith}
+use native.Mathlib.Numerals.{add-one}
+use mathlib.Core.Path.{_≡_, refl, sym, ap, _∙_}
+use mathlib.Core.List.{List, [], _∷_, _++_, append-assoc}
+use lib.ListN.{length, take, drop, set, getD, length-set, take-append-drop}
+use lib.Seq.{take-suc-set, drop-set-lt, drop-drop, append-snoc}
+use Rattle.rules.specs.declared.Change.{Change}
+use Rattle.rules.specs.declared.Key.{Key}
+use Rattle.rules.specs.Orders.{Numbered, named, numbersOf, destinationOf, destinationsFrom, noChange}
+use Rattle.rules.specs.Calls.{written}
+use Rattle.changes.proofs.Walk.{destinations-left, destinations-none}
+
+-- a record that is written up to a place, for the changes before i
+pub record Recording (cs : List Change) (list₀ list : List ℕ) (place i : ℕ) : Type 0 where
+  pub low : i ≤ length cs
+  pub few : place ≤ i
+  pub len : length list ≡ length list₀
+  pub is :
+      written (numbersOf (destinationsFrom 0 cs)) list₀ ≡
+      take place list ++ written (numbersOf (destinationsFrom i (drop i cs))) (drop place list)
+
+pub record-start : (cs : List Change) (list : List ℕ) → Recording cs list list 0 0
+record-start cs list = record { low = omega arith; few = omega arith; len = refl; is = refl }
+
+-- one number more
+written-more :
+    (n : ℕ) (ns list : List ℕ) (place : ℕ) → place < length list →
+    take place list ++ written (n ∷ ns) (drop place list) ≡
+    take (place + 1) (set list place n) ++ written ns (drop (place + 1) (set list place n))
+written-more n ns list place h =
+    let rest : drop (suc (length ns)) (drop place list) ≡ drop (length ns) (drop (suc place) list) =
+    (let e : place + suc (length ns) ≡ suc place + length ns = omega arith in
+    drop-drop (suc (length ns)) place list ∙ rw e (sym (drop-drop (length ns) (suc place) list))) in
+    rw (add-one place, take-suc-set list place n h, drop-set-lt (suc place) list place n (omega arith), rest)
+    (sym (append-snoc (take place list) n (ns ++ drop (length ns) (drop (suc place) list))))
+
+module _ {cs : List Change} {list₀ list : List ℕ} {place i : ℕ} (z : Recording cs list₀ list place i) where
+  pub record-end : length cs ≤ i → list ≡ written (numbersOf (destinationsFrom 0 cs)) list₀
+  record-end h =
+      sym
+      (z .is
+      ∙ (ap (λ (ds : List Numbered). take place list ++ written (numbersOf ds) (drop place list)) (destinations-none cs i h)
+      ∙ take-append-drop place list))
+
+  module _ (h : i < length cs) (c : Change) (ec : c ≡ getD cs i noChange) where
+    left :
+        (k : Key) → destinationOf c ≡ k →
+        written (numbersOf (destinationsFrom 0 cs)) list₀ ≡
+        take place list ++ written (numbersOf (named i c k (destinationsFrom (i + 1) (drop (i + 1) cs)))) (drop place list)
+    left k e =
+        z .is
+        ∙ (ap (λ (ds : List Numbered). take place list ++ written (numbersOf ds) (drop place list)) (destinations-left cs i h)
+        ∙ rw (← ec)
+        (ap (λ (j : Key). take place list ++ written (numbersOf (named i c j (destinationsFrom (i + 1) (drop (i + 1) cs)))) (drop place list)) e))
+
+    pub record-pass : destinationOf c ≡ Key.Missing → Recording cs list₀ list place (i + 1)
+    record-pass e =
+        let f = z .few in
+        record { low = omega arith; few = omega arith; len = z .len; is = left Key.Missing e }
+
+    pub record-turn :
+        (key : ℕ) → destinationOf c ≡ Key.Named key → length cs ≤ length list₀ → Recording cs list₀ (set list place i) (place + 1) (i + 1)
+    record-turn key e room =
+        let f = z .few in
+        let l = z .len in
+        record {
+          low = omega arith;
+          few = omega arith;
+          len = length-set list place i ∙ l;
+          is =
+              left (Key.Named key) e
+              ∙ written-more i (numbersOf (destinationsFrom (i + 1) (drop (i + 1) cs))) list place (omega arith);
+        }

@@ -1,0 +1,67 @@
+-- What a step and a run of steps leave: the rules' own steps, seen in a lent table.
+use Prim.Native.Nat.{ℕ, zero, suc, _+_, _≤_}
+use mathlib.Core.Path.{_≡_}
+use mathlib.Core.List.{List, []}
+use mathlib.Core.Bool.{Bool}
+use lib.ListN.{getD}
+use Rattle.rules.specs.declared.Posting.{Posting}
+use Rattle.rules.specs.declared.Change.{Change}
+use Rattle.rules.specs.declared.Answer.{Answer}
+use Rattle.rules.specs.declared.Verdict.{Verdict}
+use Rattle.rules.specs.Table.{postings}
+use Rattle.rules.specs.Orders.{Numbered, named, destinationOf, noChange}
+use Rattle.rules.specs.Storage.{Insertion, Removal}
+use Rattle.rules.specs.Publication.{Undone, undoing, Stage}
+use Rattle.table.specs.Holding.{Holds, Held}
+use Rattle.steps.specs.declared.Inserted.{Inserted}
+use Rattle.steps.specs.declared.Removed.{Removed}
+use Rattle.steps.specs.declared.Back.{Back}
+use Rattle.steps.specs.declared.Reached.{Reached}
+
+-- an insertion in a table
+pub record Inserts (i : Insertion) (r : Inserted) (table : List ℕ) : Type 0 where
+  pub fault : r .fault ≡ i .fault
+  pub holds : Holds table (r .used) (i .postings)
+
+-- a removal in a table
+pub record Removes (o : Removal) (r : Removed) (table : List ℕ) : Type 0 where
+  pub failed : r .failed ≡ o .failed
+  pub holds : Holds table (r .used) (o .postings)
+
+-- a run of undo removals in a table, which has read at most so many bytes
+pub record Undoes (u : Undone) (r : Back) (table : List ℕ) (most : ℕ) : Type 0 where
+  pub verdict : r .verdict ≡ u .verdict
+  pub holds : Holds table (r .used) (u .postings)
+  pub read : r .read ≡ u .read
+  pub few : r .read ≤ most
+
+-- a part of a call in a table, which has read at most so many bytes
+pub record Reaches (s : Stage) (r : Reached) (table : List ℕ) (most : ℕ) : Type 0 where
+  pub answer : r .answer ≡ s .answer
+  pub holds : Holds table (r .used) (s .postings)
+  pub read : r .read ≡ s .read
+  pub few : r .read ≤ most
+
+-- one change is undone: whatever is left to undo goes on from there
+pub record UndoesOne (strip : List ℕ) (number : ℕ) (c : Change) (from : Back) (before : List ℕ) (r : Back) (after : List ℕ) : Type 0 where
+  pub held : Held after (r .used)
+  pub few : r .read ≤ from .read + 1
+  pub rest :
+      (ds : List Numbered) →
+      undoing strip (named number c (destinationOf c) ds) (from .verdict) (from .read) (postings (from .used) before) ≡
+      undoing strip ds (r .verdict) (r .read) (postings (r .used) after)
+
+-- the destinations of so many changes, the last one first: the order of their undo. The numbers of the changes are those that a
+-- record has, or the first ones
+unfoldable pub backward : (ℕ → ℕ) → ℕ → List Change → List Numbered
+backward number zero cs = []
+backward number (suc i) cs =
+    named (number i) (getD cs (number i) noChange) (destinationOf (getD cs (number i) noChange)) (backward number i cs)
+
+-- the first changes
+abbrev pub inOrder : ℕ → ℕ
+inOrder i = i
+
+-- the changes of a record
+abbrev pub asRecorded : List ℕ → ℕ → ℕ
+asRecorded ns place = getD ns place 0

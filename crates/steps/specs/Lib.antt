@@ -1,0 +1,2 @@
+-- What the contracts of `steps` speak of.
+pub mod Leaving

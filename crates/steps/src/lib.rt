@@ -1,0 +1,356 @@
+// Prepare, rollback and source removal, step by step, as storage behaves by the strip. An inner layer, not delivered: each asks
+// for a table that holds its postings and for lists that the checks have passed.
+use changes::change_at;
+use changes::count_of;
+use changes::destination_of;
+use changes::source_of;
+use rules::Answer;
+use rules::Fault;
+use rules::Key;
+use rules::Posting;
+use rules::Verdict;
+ghost use Prim.Native.Nat.{_+_, _*_, _<_, _≤_};
+ghost use mathlib.Core.Path.{_≡_};
+ghost use mathlib.Core.Bool.{true};
+ghost use mathlib.Core.List.{[], reverse};
+ghost use lib.ListN.{length, getD};
+ghost use lib.Dec.{ltb};
+ghost use Rattle.rules.specs.declared.Verdict.{Verdict};
+ghost use Rattle.rules.specs.Limits.{mostChanges};
+ghost use Rattle.rules.specs.Postings.{every};
+ghost use Rattle.rules.specs.Table.{capacity, postings};
+ghost use Rattle.rules.specs.Orders.{byteAt, changes, destinations, sources, numbersOf, recorded, noChange};
+ghost use Rattle.rules.specs.Storage.{insertion, removal};
+ghost use Rattle.rules.specs.Publication.{undoing, notInserted, preparing, removing};
+ghost use Rattle.rules.specs.Calls.{written};
+ghost use Rattle.table.specs.Holding.{Held};
+ghost use Rattle.steps.specs.Leaving.{Inserts, Removes, Undoes, UndoesOne, Reaches, backward, inOrder};
+
+// What an insertion met, and the new used.
+pub struct Inserted {
+    pub fault: Fault,
+    pub used: usize,
+}
+
+// Whether a removal failed, and the new used.
+pub struct Removed {
+    pub failed: bool,
+    pub used: usize,
+}
+
+// What a run of undo removals leaves: refused with the last change whose removal failed, the used, the bytes read.
+pub struct Back {
+    pub verdict: Verdict,
+    pub used: usize,
+    pub read: usize,
+}
+
+// What a part of a call leaves: its answer, the used, the bytes read.
+pub struct Reached {
+    pub answer: Answer,
+    pub used: usize,
+    pub read: usize,
+}
+
+// The next byte where so many are read; past the end reads 0.
+fn byte_at(strip: &[u8], read: usize) -> u8
+    ensures { λ r. ⌜ r ≡ byteAt (now (strip .entry)) read ⌝ }
+{
+    if read < strip.len() {
+        return strip[read];
+    }
+    0
+}
+
+// Byte 0 inserts, or fails full where there is no room; byte 1 or 2 fails unchanged.
+fn insert_by(byte: u8, table: &mut [u32], used: usize, p: Posting) -> Inserted
+    requires { ⌜ Held (now table) used ⌝ }
+    ensures { λ r. ⌜ Inserts (insertion byte (capacity (now (table .entry))) p (postings used (now (table .entry)))) r (now (table .exit)) ⌝ }
+{
+    if byte != 0 {
+        return Inserted {
+            fault: Fault::Store,
+            used,
+        };
+    }
+    if used < table.len() / 3 {
+        let more = table::insert(table, used, p);
+        return Inserted {
+            fault: Fault::Nothing,
+            used: more,
+        };
+    }
+    Inserted {
+        fault: Fault::Full,
+        used,
+    }
+}
+
+// Byte 0 removes; byte 1 fails unchanged; byte 2 fails with the posting gone.
+fn remove_by(byte: u8, table: &mut [u32], used: usize, p: Posting) -> Removed
+    requires { ⌜ Held (now table) used ⌝ }
+    ensures { λ r. ⌜ Removes (removal byte p (postings used (now (table .entry)))) r (now (table .exit)) ⌝ }
+{
+    if byte == 1 {
+        return Removed { failed: true, used };
+    }
+    let left = table::remove(table, used, p);
+    Removed {
+        failed: byte != 0,
+        used: left,
+    }
+}
+
+// The destination of one change is removed again. A failure is kept, with the change, and what comes after goes on.
+fn undo_change(table: &mut [u32], list: &[u32], strip: &[u8], number: usize, so_far: Back) -> Back
+    requires { ⌜ Held (now table) («so_far» .used) ⌝ }
+    requires { ⌜ (number < length (changes (now list))) × (length (changes (now list)) ≤ mostChanges) ⌝ }
+    requires { ⌜ «so_far» .read ≤ length (changes (now list)) * 2 + 1 ⌝ }
+    ensures { λ r. ⌜ UndoesOne (now (strip .entry)) number (getD (changes (now (list .entry))) number noChange) «so_far» (now (table .entry)) r (now (table .exit)) ⌝ }
+{
+    let change = change_at(list, number);
+    let Key::Named(key) = destination_of(change) else {
+        return so_far;
+    };
+    let taken = remove_by(
+        byte_at(strip, so_far.read),
+        table,
+        so_far.used,
+        Posting {
+            binding: change.binding,
+            key,
+            row: change.row,
+        },
+    );
+    if taken.failed {
+        return Back {
+            verdict: Verdict::Refused(Answer::Undo(number as u32)),
+            used: taken.used,
+            read: so_far.read + 1,
+        };
+    }
+    let verdict = so_far.verdict;
+    Back {
+        verdict,
+        used: taken.used,
+        read: so_far.read + 1,
+    }
+}
+
+// The destinations of the changes below one are removed, from the last to the first.
+fn undo_below(
+    table: &mut [u32],
+    list: &[u32],
+    strip: &[u8],
+    change: usize,
+    used: usize,
+    read: usize,
+) -> Back
+    requires { ⌜ Held (now table) used ⌝ }
+    requires { ⌜ (change ≤ length (changes (now list))) × (length (changes (now list)) ≤ mostChanges) ⌝ }
+    requires { ⌜ read ≤ length (changes (now list)) + 1 ⌝ }
+    ensures { λ r. ⌜ Undoes (undoing (now (strip .entry)) (backward inOrder change (changes (now (list .entry)))) Verdict.Passes read (postings used (now (table .entry))))
+        r (now (table .exit)) (read + change) ⌝ }
+{
+    let mut so_far = Back {
+        verdict: Verdict::Passes,
+        used,
+        read,
+    };
+    let mut i = change;
+    while i > 0 {
+        i -= 1;
+        so_far = undo_change(table, list, strip, i, so_far);
+    }
+    so_far
+}
+
+// Rollback: the destinations of a record are removed, from its end to its start.
+pub fn rollback(table: &mut [u32], list: &[u32], strip: &[u8], record: &[u32], used: usize) -> Back
+    requires { ⌜ Held (now table) used × (length (changes (now list)) ≤ mostChanges) ⌝ }
+    requires { ⌜ every (λ n. ltb n (length (changes (now list)))) (now «record») ≡ true ⌝ }
+    requires { ⌜ length (now «record») ≤ length (changes (now list)) ⌝ }
+    ensures { λ r. ⌜ Undoes (undoing (now (strip .entry)) (reverse (recorded (changes (now (list .entry))) (now («record» .entry)))) Verdict.Passes 0 (postings used (now (table .entry))))
+        r (now (table .exit)) (length (changes (now (list .entry)))) ⌝ }
+{
+    let mut so_far = Back {
+        verdict: Verdict::Passes,
+        used,
+        read: 0,
+    };
+    let mut place = record.len();
+    while place > 0 {
+        place -= 1;
+        so_far = undo_change(table, list, strip, record[place] as usize, so_far);
+    }
+    so_far
+}
+
+// A change could not be inserted: all before it is undone. The answer says why, or 12 where the undo failed.
+fn not_inserted(
+    table: &mut [u32],
+    list: &[u32],
+    strip: &[u8],
+    change: usize,
+    why: Answer,
+    used: usize,
+    read: usize,
+) -> Reached
+    requires { ⌜ Held (now table) used ⌝ }
+    requires { ⌜ (change ≤ length (changes (now list))) × (length (changes (now list)) ≤ mostChanges) ⌝ }
+    requires { ⌜ read ≤ length (changes (now list)) + 1 ⌝ }
+    ensures { λ r. ⌜ Reaches (notInserted why change (undoing (now (strip .entry)) (backward inOrder change (changes (now (list .entry)))) Verdict.Passes read (postings used (now (table .entry)))))
+        r (now (table .exit)) (read + change) ⌝ }
+{
+    let undone = undo_below(table, list, strip, change, used, read);
+    let verdict = undone.verdict;
+    match verdict {
+        Verdict::Passes => Reached {
+            answer: why,
+            used: undone.used,
+            read: undone.read,
+        },
+        Verdict::Refused(_) => Reached {
+            answer: Answer::Undo(change as u32),
+            used: undone.used,
+            read: undone.read,
+        },
+    }
+}
+
+// Prepare: the destinations go in, up the list. At a failed insertion all is undone.
+pub fn prepare(table: &mut [u32], list: &[u32], strip: &[u8], used: usize) -> Reached
+    requires { ⌜ Held (now table) used × (length (changes (now list)) ≤ mostChanges) ⌝ }
+    ensures { λ r. ⌜ Reaches (preparing (capacity (now (table .entry))) (now (strip .entry)) (destinations (changes (now (list .entry)))) [] 0 (postings used (now (table .entry))))
+        r (now (table .exit)) (length (changes (now (list .entry))) * 2 + 1) ⌝ }
+{
+    let n = count_of(list);
+    let mut used = used;
+    let mut read: usize = 0;
+    let mut inserted: u32 = 0;
+    let mut i = 0;
+    while i < n {
+        let change = change_at(list, i);
+        let Key::Named(key) = destination_of(change) else {
+            i += 1;
+            continue;
+        };
+        let put = insert_by(
+            byte_at(strip, read),
+            table,
+            used,
+            Posting {
+                binding: change.binding,
+                key,
+                row: change.row,
+            },
+        );
+        read += 1;
+        let fault = put.fault;
+        match fault {
+            Fault::Nothing => {
+                used = put.used;
+                inserted += 1;
+                i += 1;
+            }
+            Fault::Store => {
+                return not_inserted(
+                    table,
+                    list,
+                    strip,
+                    i,
+                    Answer::Store(i as u32),
+                    put.used,
+                    read,
+                );
+            }
+            Fault::Full => {
+                return not_inserted(
+                    table,
+                    list,
+                    strip,
+                    i,
+                    Answer::Full(i as u32),
+                    put.used,
+                    read,
+                );
+            }
+        }
+    }
+    Reached {
+        answer: Answer::Accepted(inserted),
+        used,
+        read,
+    }
+}
+
+// The record of a prepare: the numbers of the changes with a destination, ascending. It is written after the last insertion.
+pub fn write_record(list: &[u32], record: &mut [u32])
+    requires { ⌜ (length (changes (now list)) ≤ mostChanges) × (length (changes (now list)) ≤ length (now «record»)) ⌝ }
+    ensures { λ _. ⌜ now («record» .exit) ≡ written (numbersOf (destinations (changes (now (list .entry))))) (now («record» .entry)) ⌝ }
+{
+    let n = count_of(list);
+    let mut place: usize = 0;
+    let mut i = 0;
+    while i < n {
+        let Key::Named(_) = destination_of(change_at(list, i)) else {
+            i += 1;
+            continue;
+        };
+        record[place] = i as u32;
+        place += 1;
+        i += 1;
+    }
+}
+
+// Source removal: up the list over the befores, to the first failure. The answer is this one where none failed.
+pub fn remove_sources(
+    table: &mut [u32],
+    list: &[u32],
+    strip: &[u8],
+    clear: Answer,
+    used: usize,
+    read: usize,
+) -> Reached
+    requires { ⌜ Held (now table) used × (length (changes (now list)) ≤ mostChanges) ⌝ }
+    requires { ⌜ read ≤ length (changes (now list)) * 2 + 1 ⌝ }
+    ensures { λ r. ⌜ Reaches (removing (now (strip .entry)) clear (sources (changes (now (list .entry)))) read (postings used (now (table .entry))))
+        r (now (table .exit)) (read + length (changes (now (list .entry)))) ⌝ }
+{
+    let n = count_of(list);
+    let mut used = used;
+    let mut read = read;
+    let mut i = 0;
+    while i < n {
+        let change = change_at(list, i);
+        let Key::Named(key) = source_of(change) else {
+            i += 1;
+            continue;
+        };
+        let taken = remove_by(
+            byte_at(strip, read),
+            table,
+            used,
+            Posting {
+                binding: change.binding,
+                key,
+                row: change.row,
+            },
+        );
+        used = taken.used;
+        read += 1;
+        if taken.failed {
+            return Reached {
+                answer: Answer::Source(i as u32),
+                used,
+                read,
+            };
+        }
+        i += 1;
+    }
+    Reached {
+        answer: clear,
+        used,
+        read,
+    }
+}

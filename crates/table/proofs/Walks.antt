@@ -1,0 +1,159 @@
+-- What is left of the postings in use where a walk has come to a place: the posting read there, and the rest.
+use Prim.Native.Nat.{ℕ, zero, suc, _+_, _-_, _*_, _<_, _≤_}
+use native.Mathlib.Omega.{arith}
+use native.Mathlib.Numerals.{add-one}
+use mathlib.Core.Path.{_≡_, refl, sym, ap, _∙_}
+use mathlib.Core.List.{List, [], _∷_}
+use mathlib.Core.Bool.{Bool, true, false, cond, _&&_}
+use lib.ListN.{length, getD, take, drop, length-drop, drop-of-length-le}
+use lib.Seq.{drop-cons, getD-take, length-take-le}
+use lib.Dec.{eqb, ltb}
+use borrow.Author.Tests.{ltb-true, lt-ltb}
+use Rattle.rules.specs.declared.Posting.{Posting}
+use Rattle.rules.specs.declared.Order.{Order}
+use Rattle.rules.specs.Postings.{every, ranked, compared, isBefore, chain, ascending, bucket, within}
+use Rattle.rules.specs.Table.{cells, postings}
+use Rattle.laws.proofs.Tests.{and-left}
+use Rattle.laws.proofs.Ranks.{Tri, less, equal, more, tri, ranked-more}
+use Rattle.laws.proofs.Sorted.{chain-before, chain-rest}
+use Rattle.table.specs.Holding.{blank}
+use Rattle.table.proofs.Cells.{length-cells}
+
+module _ (t : List ℕ) (used : ℕ) (room : used * 3 ≤ length t) where
+  pub length-postings : length (postings used t) ≡ used
+  length-postings = let e = length-cells t in length-take-le used (cells t) (omega arith)
+
+  pub none-left : drop used (postings used t) ≡ []
+  none-left = let e = length-postings in drop-of-length-le (postings used t) {i = used} (omega arith)
+
+  pub posting-left :
+      (i : ℕ) → i < used → drop i (postings used t) ≡ getD (cells t) i blank ∷ drop (i + 1) (postings used t)
+  posting-left i h =
+      let k : i < length (postings used t) = rw length-postings h in
+      rw (add-one, drop-cons (postings used t) i blank k, getD-take used (cells t) i blank h)
+
+-- the postings that a walk has before it, the one just read first
+module _ (t : List ℕ) (used : ℕ) (room : used * 3 ≤ length t) (i : ℕ) (h : i < used) (q : Posting)
+    (r : q ≡ getD (cells t) i blank) where
+  pub next-left : drop i (postings used t) ≡ q ∷ drop (i + 1) (postings used t)
+  next-left = rw r (posting-left t used room i h)
+
+  pub chain-left :
+      (p : Posting) (b : Bool) → isBefore (compared p q) ≡ b →
+      chain p (drop i (postings used t)) ≡ (b && chain q (drop (i + 1) (postings used t)))
+  unfolding chain
+  chain-left p b e = rw (next-left, e)
+
+  pub bucket-left :
+      (binding key : ℕ) →
+      length (bucket binding key (drop i (postings used t))) ≡
+      cond (eqb binding (q .binding) && eqb key (q .key)) 1 0 + length (bucket binding key (drop (i + 1) (postings used t)))
+  unfolding bucket
+  bucket-left binding key = rw next-left (counted-head (eqb binding (q .binding) && eqb key (q .key)))
+    where
+      counted-head :
+          (b : Bool) →
+          length (cond b (q .row ∷ bucket binding key (drop (i + 1) (postings used t))) (bucket binding key (drop (i + 1) (postings used t)))) ≡
+          cond b 1 0 + length (bucket binding key (drop (i + 1) (postings used t)))
+      counted-head true = omega arith
+      counted-head false = omega arith
+
+-- the first posting, and those after it
+pub ascending-left :
+    (t : List ℕ) (used : ℕ) → used * 3 ≤ length t → 0 < used → (q : Posting) → q ≡ getD (cells t) 0 blank →
+    ascending (postings used t) ≡ chain q (drop 1 (postings used t))
+unfolding ascending
+ascending-left t used room h q r = ap ascending (next-left t used room 0 h q r)
+
+pub none-ascend : (t : List ℕ) (used : ℕ) → used ≡ 0 → ascending (postings used t) ≡ true
+unfolding ascending
+none-ascend t used e = rw e
+
+pub none-chained : (p : Posting) → chain p [] ≡ true
+unfolding chain
+none-chained p = refl
+
+pub none-counted : (binding key : ℕ) → length (bucket binding key []) ≡ 0
+unfolding bucket
+none-counted binding key = refl
+
+-- zeros from a place on
+pub zeros-left :
+    (l : List ℕ) (i : ℕ) → i < length l → (b : Bool) → eqb 0 (getD l i 0) ≡ b →
+    every (eqb 0) (drop i l) ≡ (b && every (eqb 0) (drop (i + 1) l))
+unfolding every
+zeros-left l i h b e = rw (drop-cons l i 0 h, add-one i, e)
+
+pub zeros-none : (l : List ℕ) (i : ℕ) → length l ≤ i → every (eqb 0) (drop i l) ≡ true
+unfolding every
+zeros-none l i h = rw (drop-of-length-le l h)
+
+binding-before : (p q : Posting) → compared p q ≡ Order.Before → p .binding ≤ q .binding
+unfolding compared
+binding-before p q e = go (tri (p .binding) (q .binding))
+  where
+    go : Tri (p .binding) (q .binding) → p .binding ≤ q .binding
+    go (less h) = omega arith
+    go (equal h) = omega arith
+    go (more h) =
+        let z : _≡_ {A = ℕ} 0 1 = cc (e, ranked-more (p .binding) (q .binding) (ranked (p .key) (q .key) (ranked (p .row) (q .row) Order.Same)) h) in
+        absurd (omega arith)
+
+pub and-true : (b : Bool) → (b && true) ≡ b
+and-true true = refl
+and-true false = refl
+
+and-false : (b : Bool) → (b && false) ≡ false
+and-false true = refl
+and-false false = refl
+
+-- in an ascending list the last posting has the greatest binding, so it alone decides
+pub within-last :
+    (bindings : ℕ) (p : Posting) (qs : List Posting) (i : ℕ) → chain p qs ≡ true → length qs ≡ i →
+    every (within bindings) (p ∷ qs) ≡ ltb (getD (p ∷ qs) i blank .binding) bindings
+unfolding every within
+within-last bindings p [] zero h e = and-true (ltb (p .binding) bindings)
+within-last bindings p [] (suc i) h e = absurd (omega arith)
+within-last bindings p (q ∷ qs) zero h e = absurd (omega arith)
+within-last bindings p (q ∷ qs) (suc i) h e =
+    go (every (within bindings) (q ∷ qs)) refl (within-last bindings q qs i (chain-rest p q qs h) (omega arith))
+  where
+    go :
+        (b : Bool) → every (within bindings) (q ∷ qs) ≡ b → b ≡ ltb (getD (q ∷ qs) i blank .binding) bindings →
+        (ltb (p .binding) bindings && b) ≡ ltb (getD (q ∷ qs) i blank .binding) bindings
+    go true k ih =
+        let l = ltb-true (q .binding) bindings (and-left (ltb (q .binding) bindings) (every (within bindings) qs) k) in
+        let m = binding-before p q (chain-before p q qs h) in
+        rw (lt-ltb (p .binding) bindings (omega arith)) ih
+    go false k ih = and-false (ltb (p .binding) bindings) ∙ ih
+
+pub bindings-within :
+    (t : List ℕ) (used bindings : ℕ) → used * 3 ≤ length t → 0 < used → ascending (postings used t) ≡ true →
+    (last : Posting) → last ≡ getD (cells t) (used - 1) blank →
+    ltb (last .binding) bindings ≡ every (within bindings) (postings used t)
+unfolding ascending
+bindings-within t used bindings room h sorted last e =
+    let first : Posting = getD (cells t) 0 blank in
+    let here : postings used t ≡ first ∷ drop 1 (postings used t) = next-left t used room 0 h first refl in
+    let chained : chain first (drop 1 (postings used t)) ≡ true = sym (ap ascending here) ∙ sorted in
+    let long : length (drop 1 (postings used t)) ≡ used - 1 =
+    length-drop 1 (postings used t) ∙ ap (λ n. n - 1) (length-postings t used room) in
+    let at : getD (postings used t) (used - 1) blank ≡ last =
+    getD-take used (cells t) (used - 1) blank (omega arith) ∙ sym e in
+    sym
+    (ap (every (within bindings)) here
+    ∙ (within-last bindings first (drop 1 (postings used t)) (used - 1) chained long
+    ∙ ap (λ (p : Posting). ltb (p .binding) bindings) (sym (ap (λ (l : List Posting). getD l (used - 1) blank) here) ∙ at)))
+
+pub none-within : (t : List ℕ) (used bindings : ℕ) → used ≡ 0 → every (within bindings) (postings used t) ≡ true
+unfolding every
+none-within t used bindings e = rw e
+
+-- a posting counts for one, or for none
+pub one-most :
+    (binding key : ℕ) (q : Posting) {n : ℕ} → n ≡ cond (eqb binding (q .binding) && eqb key (q .key)) 1 0 → n ≤ 1
+one-most binding key q {n} e = go (eqb binding (q .binding) && eqb key (q .key)) e
+  where
+    go : (b : Bool) → n ≡ cond b 1 0 → n ≤ 1
+    go true f = omega arith
+    go false f = omega arith
