@@ -1,13 +1,14 @@
--- A change list turn by turn: its length, the change at a place, and what a loop that has reached a place still has before it.
+-- A change list turn by turn: its length, the change at a place, what a loop that has reached a place still has before it, and what it has behind it.
 use Prim.Native.Nat.{ℕ, zero, suc, _+_, _*_, _/_, _<_, _≤_}
 use native.Mathlib.Numerals.{add-one}
 use native.Mathlib.Omega.{arith}
 use mathlib.Core.Path.{_≡_, refl, _∙_}
-use mathlib.Core.List.{List, [], _∷_}
-use lib.ListN.{length, drop, getD, drop-of-length-le}
-use lib.Seq.{drop-cons, getD-drop}
+use mathlib.Core.List.{List, [], _∷_, _++_}
+use lib.ListN.{length, take, drop, getD, drop-of-length-le}
+use lib.Seq.{take-suc, length-take-le, drop-cons, getD-drop}
+use Rattle.rules.specs.declared.Key.{Key}
 use Rattle.rules.specs.declared.Change.{Change}
-use Rattle.rules.specs.Orders.{keyOf, changes, destinationOf, sourceOf, Numbered, named, destinationsFrom, sourcesFrom, noChange}
+use Rattle.rules.specs.Orders.{keyOf, changes, destinationOf, sourceOf, named, destinationsFrom, sourcesFrom, destinations, noChange}
 
 pub changes-length : (l : List ℕ) → length (changes l) ≡ length l / 6
 unfolding changes
@@ -79,3 +80,28 @@ destinations-none cs i h = rw (drop-all cs i h)
 pub sources-none : (cs : List Change) (i : ℕ) → length cs ≤ i → sourcesFrom i (drop i cs) ≡ []
 unfolding sourcesFrom
 sources-none cs i h = rw (drop-all cs i h)
+
+-- one more change at the end
+pub destinations-last :
+    (i : ℕ) (cs : List Change) (c : Change) →
+    destinationsFrom i (cs ++ c ∷ []) ≡ destinationsFrom i cs ++ named (i + length cs) c (destinationOf c) []
+unfolding destinationsFrom
+destinations-last i [] c = let n : i + 0 ≡ i = omega arith in rw n
+destinations-last i (x ∷ cs) c =
+    let n : i + 1 + length cs ≡ i + suc (length cs) = omega arith in
+    rw (destinations-last (i + 1) cs c, n) (go (destinationOf x))
+  where
+    go :
+        (key : Key) →
+        named i x key (destinationsFrom (i + 1) cs ++ named (i + suc (length cs)) c (destinationOf c) []) ≡ named i x key (destinationsFrom (i + 1) cs) ++ named (i + suc (length cs)) c (destinationOf c) []
+    go Key.Missing = refl
+    go (Key.Named key) = refl
+
+-- one more change passed
+pub destinations-behind :
+    (cs : List Change) (i : ℕ) → i < length cs →
+    destinations (take (i + 1) cs) ≡ destinations (take i cs) ++ named i (getD cs i noChange) (destinationOf (getD cs i noChange)) []
+destinations-behind cs i h =
+    let k : i ≤ length cs = omega arith in
+    let n : 0 + length (take i cs) ≡ i = omega (arith, length-take-le i cs k) in
+    rw (add-one i, take-suc cs i noChange h) (destinations-last 0 (take i cs) (getD cs i noChange) ∙ rw n)

@@ -1,11 +1,18 @@
 -- A change seen by its keys: what each walk asks of it.
+use Prim.Native.Nat.{ℕ, _+_}
 use mathlib.Core.List.{List}
-use mathlib.Core.Bool.{Bool, false}
+use mathlib.Core.Bool.{Bool, false, _&&_}
+use lib.ListN.{getD}
 use Rattle.rules.specs.declared.Posting.{Posting}
 use Rattle.rules.specs.declared.Key.{Key}
 use Rattle.rules.specs.declared.Change.{Change}
 use Rattle.rules.specs.Postings.{same, present}
-use Rattle.rules.specs.Orders.{destinationOf, sourceOf}
+use Rattle.rules.specs.Orders.{properKey, destinationOf, sourceOf}
+
+-- both keys are as they must be, in the change whose six numbers begin at a place
+abbrev pub properAt : List ℕ → ℕ → Bool
+properAt l first =
+    properKey (getD l (first + 2) 0) (getD l (first + 3) 0) && properKey (getD l (first + 4) 0) (getD l (first + 5) 0)
 
 -- the test of a change's posting under a key; a change with no key has none
 abbrev pub underKey : Change → Key → (Posting → Bool) → Bool

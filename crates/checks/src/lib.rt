@@ -10,12 +10,11 @@ use rules::Change;
 use rules::Key;
 use rules::Posting;
 use rules::Verdict;
-ghost use Prim.Native.Nat.{ℕ, _*_, _+_, _<_, _≤_};
+ghost use Prim.Native.Nat.{_+_, _<_, _≤_};
 ghost use mathlib.Core.Path.{_≡_};
 ghost use mathlib.Core.List.{[]};
-ghost use mathlib.Core.Bool.{not, _&&_};
-ghost use lib.ListN.{length, take, drop, getD};
-ghost use lib.Dec.{ltb};
+ghost use mathlib.Core.Bool.{not};
+ghost use lib.ListN.{length, take, getD};
 ghost use Rattle.rules.specs.declared.Answer.{Answer};
 ghost use Rattle.rules.specs.Limits.{mostChanges};
 ghost use Rattle.rules.specs.Postings.{present};
@@ -23,7 +22,7 @@ ghost use Rattle.rules.specs.Table.{postings};
 ghost use Rattle.rules.specs.Orders.{properKey, properChanges, properLists, properStrip, guards, changes, held, destinationOf, destinations, sources, noChange, Numbered, postingsOf};
 ghost use Rattle.rules.specs.Checks.{firstFailing, heldKey, guarded, isNamed, recordable, among, recordFrom, twiceFrom};
 ghost use Rattle.table.specs.Holding.{Held};
-ghost use Rattle.checks.specs.Walks.{goesTo, oneDestination, arrivesIn, leavesIn};
+ghost use Rattle.checks.specs.Walks.{properAt, goesTo, oneDestination, arrivesIn, leavesIn};
 
 // The limits that the code tests: the rules' own numbers.
 pub const MOST_CHANGES: usize = 256;
@@ -45,8 +44,7 @@ fn proper_key(flag: u32, key: u32) -> bool
 // Both keys of the change that begins at a place.
 fn proper_keys(list: &[u32], first: usize) -> bool
     requires { ⌜ first + 6 ≤ length (now list) ⌝ }
-    ensures { λ r. ⌜ r ≡ (properKey (getD (now (list .entry)) (first + 2) 0) (getD (now (list .entry)) (first + 3) 0)
-        && properKey (getD (now (list .entry)) (first + 4) 0) (getD (now (list .entry)) (first + 5) 0)) ⌝ }
+    ensures { λ r. ⌜ r ≡ properAt (now (list .entry)) first ⌝ }
 {
     if proper_key(list[first + 2], list[first + 3]) {
         return proper_key(list[first + 4], list[first + 5]);
@@ -276,7 +274,9 @@ pub fn check_twice(list: &[u32]) -> Verdict
         j += 1;
     }
     if j < n {
-        return Verdict::Refused(Answer::Twice(i as u32, j as u32));
+        let earlier = i as u32;
+        let later = j as u32;
+        return Verdict::Refused(Answer::Twice(earlier, later));
     }
     Verdict::Passes
 }

@@ -229,7 +229,7 @@ among-not n [] h i l e = omega arith
 among-not n (m ∷ ms) h zero l e = eqb-false n m (or-left (eqb n m) (among n ms) h) (sym e)
 among-not n (m ∷ ms) h (suc i) l e = among-not n ms (or-right (eqb n m) (among n ms) h) i (omega arith) e
 
-among-snoc : (n : ℕ) (ns : List ℕ) (m : ℕ) → among n (ns ++ m ∷ []) ≡ (eqb n m || among n ns)
+pub among-snoc : (n : ℕ) (ns : List ℕ) (m : ℕ) → among n (ns ++ m ∷ []) ≡ (eqb n m || among n ns)
 unfolding among
 among-snoc n [] m = refl
 among-snoc n (x ∷ xs) m = rw (among-snoc n xs m) (or-swap (eqb n x) (eqb n m) (among n xs))

@@ -1,11 +1,17 @@
-// The posting calls, head by value and guards as flat numbers.
-mod refusals;
+// The posting calls: head by value, guards as flat numbers, every list lent. Any numbers may come in: a call refuses by number
+// and then changes nothing, or does the work that the rules say. Each promise says of all that is seen afterwards that it is what
+// the rules say.
+mod work;
 
 use rules::Answer;
 use rules::Head;
-use rules::Told;
 use rules::Verdict;
-use steps::Reached;
+ghost use mathlib.Core.Path.{_≡_};
+ghost use mathlib.Core.List.{[]};
+ghost use Rattle.rules.specs.Answers.{toldOf};
+ghost use Rattle.rules.specs.Calls.{prepareOf, rollbackOf, removalOf, publishOf, countOf};
+ghost use Rattle.refusals.specs.Lending.{lending};
+ghost use Rattle.publish.specs.Promises.{seen, seenOf};
 
 // What a call answers, and the head that it leaves.
 pub struct Done {
@@ -13,154 +19,8 @@ pub struct Done {
     pub answer: Answer,
 }
 
-// The numbers that an operator sees.
-pub fn tell(answer: Answer) -> Told {
-    match answer {
-        Answer::Accepted(n) => Told {
-            answer: 0,
-            named: n,
-            other: 0,
-        },
-        Answer::Table => Told {
-            answer: 1,
-            named: 0,
-            other: 0,
-        },
-        Answer::Poisoned => Told {
-            answer: 2,
-            named: 0,
-            other: 0,
-        },
-        Answer::List => Told {
-            answer: 3,
-            named: 0,
-            other: 0,
-        },
-        Answer::Strip => Told {
-            answer: 4,
-            named: 0,
-            other: 0,
-        },
-        Answer::Room => Told {
-            answer: 5,
-            named: 0,
-            other: 0,
-        },
-        Answer::Guard(i) => Told {
-            answer: 6,
-            named: i,
-            other: 0,
-        },
-        Answer::Twice(i, j) => Told {
-            answer: 7,
-            named: i,
-            other: j,
-        },
-        Answer::Present(i) => Told {
-            answer: 8,
-            named: i,
-            other: 0,
-        },
-        Answer::Overlap(i) => Told {
-            answer: 9,
-            named: i,
-            other: 0,
-        },
-        Answer::Store(i) => Told {
-            answer: 10,
-            named: i,
-            other: 0,
-        },
-        Answer::Full(i) => Told {
-            answer: 11,
-            named: i,
-            other: 0,
-        },
-        Answer::Undo(i) => Told {
-            answer: 12,
-            named: i,
-            other: 0,
-        },
-        Answer::Source(i) => Told {
-            answer: 13,
-            named: i,
-            other: 0,
-        },
-        Answer::Record(place) => Told {
-            answer: 14,
-            named: place,
-            other: 0,
-        },
-    }
-}
-
-// 0: the call was accepted.
-fn is_accepted(answer: Answer) -> bool {
-    tell(answer).answer == 0
-}
-
-// The poison flag after an answer: 12 and 13 set it.
-fn flag_after(answer: Answer, flag: u32) -> u32 {
-    let number = tell(answer).answer;
-    if number == 12 {
-        return 1;
-    }
-    if number == 13 {
-        return 1;
-    }
-    flag
-}
-
-// What a call leaves where its checks passed.
-fn done(head: Head, reached: Reached) -> Done {
-    let answer = reached.answer;
-    Done {
-        head: Head {
-            bindings: head.bindings,
-            used: reached.used as u32,
-            poisoned: flag_after(answer, head.poisoned),
-        },
-        answer,
-    }
-}
-
-// The work of a prepare whose checks passed.
-fn prepare_checked(
-    head: Head,
-    table: &mut [u32],
-    list: &[u32],
-    strip: &[u8],
-    record: &mut [u32],
-) -> Done {
-    let reached = steps::prepare(table, list, strip, head.used as usize);
-    let answer = reached.answer;
-    if is_accepted(answer) {
-        steps::write_record(list, record);
-    }
-    done(head, reached)
-}
-
-// The work of a publish whose checks passed.
-fn publish_checked(
-    head: Head,
-    table: &mut [u32],
-    list: &[u32],
-    strip: &[u8],
-    record: &mut [u32],
-) -> Done {
-    let reached = steps::prepare(table, list, strip, head.used as usize);
-    let answer = reached.answer;
-    if is_accepted(answer) {
-        steps::write_record(list, record);
-        return done(
-            head,
-            steps::remove_sources(table, list, strip, answer, reached.used, reached.read),
-        );
-    }
-    done(head, reached)
-}
-
-// Inserts the destinations of a change list, or none of them.
+// Puts the destinations of a change list into the table, all of them or none, and writes their change numbers into the record
+// list. An accepted answer names how many they are.
 pub fn prepare_index_destinations(
     head: Head,
     table: &mut [u32],
@@ -168,14 +28,17 @@ pub fn prepare_index_destinations(
     guards: &[u32],
     strip: &[u8],
     record: &mut [u32],
-) -> Done {
+) -> Done
+    ensures { λ r. ⌜ seen r (now (table .exit)) (now («record» .exit))
+        ≡ seenOf (prepareOf head (now (table .entry)) (lending (now (changes .entry)) (now (guards .entry)) (now (strip .entry)) (now («record» .entry)))) ⌝ }
+{
     match refusals::of_prepare(head, table, changes, guards, strip, record) {
         Verdict::Refused(answer) => Done { head, answer },
-        Verdict::Passes => prepare_checked(head, table, changes, strip, record),
+        Verdict::Passes => work::prepare(head, table, changes, strip, record),
     }
 }
 
-// Removes the destinations of a record again.
+// Takes the destinations of a record out of the table again. The record is the whole lent list: lend the part that prepare named.
 pub fn rollback_index_destinations(
     head: Head,
     table: &mut [u32],
@@ -183,55 +46,30 @@ pub fn rollback_index_destinations(
     guards: &[u32],
     strip: &[u8],
     record: &[u32],
-) -> Done {
+) -> Done
+    ensures { λ r. ⌜ seen r (now (table .exit)) (now («record» .entry))
+        ≡ seenOf (rollbackOf head (now (table .entry)) (lending (now (changes .entry)) (now (guards .entry)) (now (strip .entry)) (now («record» .entry)))) ⌝ }
+{
     match refusals::of_rollback(head, table, changes, guards, strip, record) {
         Verdict::Refused(answer) => Done { head, answer },
-        Verdict::Passes => {
-            let undone = steps::rollback(table, changes, strip, record, head.used as usize);
-            let verdict = undone.verdict;
-            match verdict {
-                Verdict::Passes => done(
-                    head,
-                    Reached {
-                        answer: Answer::Accepted(0),
-                        used: undone.used,
-                        read: undone.read,
-                    },
-                ),
-                Verdict::Refused(answer) => done(
-                    head,
-                    Reached {
-                        answer,
-                        used: undone.used,
-                        read: undone.read,
-                    },
-                ),
-            }
-        }
+        Verdict::Passes => work::rollback(head, table, changes, strip, record),
     }
 }
 
-// Removes the sources of a change list.
+// Takes the sources of a change list out of the table.
 pub fn remove_index_sources(
     head: Head,
     table: &mut [u32],
     changes: &[u32],
     guards: &[u32],
     strip: &[u8],
-) -> Done {
+) -> Done
+    ensures { λ r. ⌜ seen r (now (table .exit)) []
+        ≡ seenOf (removalOf head (now (table .entry)) (lending (now (changes .entry)) (now (guards .entry)) (now (strip .entry)) [])) ⌝ }
+{
     match refusals::of_removal(head, table, changes, guards, strip) {
         Verdict::Refused(answer) => Done { head, answer },
-        Verdict::Passes => done(
-            head,
-            steps::remove_sources(
-                table,
-                changes,
-                strip,
-                Answer::Accepted(0),
-                head.used as usize,
-                0,
-            ),
-        ),
+        Verdict::Passes => work::remove(head, table, changes, strip),
     }
 }
 
@@ -243,19 +81,22 @@ pub fn publish(
     guards: &[u32],
     strip: &[u8],
     record: &mut [u32],
-) -> Done {
+) -> Done
+    ensures { λ r. ⌜ seen r (now (table .exit)) (now («record» .exit))
+        ≡ seenOf (publishOf head (now (table .entry)) (lending (now (changes .entry)) (now (guards .entry)) (now (strip .entry)) (now («record» .entry)))) ⌝ }
+{
     match refusals::of_publish(head, table, changes, guards, strip, record) {
         Verdict::Refused(answer) => Done { head, answer },
-        Verdict::Passes => publish_checked(head, table, changes, strip, record),
+        Verdict::Passes => work::publish(head, table, changes, strip, record),
     }
 }
 
 // How many postings a binding and key have.
-pub fn count(head: Head, table: &[u32], binding: u32, key: u32) -> Answer {
+pub fn count(head: Head, table: &[u32], binding: u32, key: u32) -> Answer
+    ensures { λ r. ⌜ toldOf r ≡ toldOf (countOf head (now (table .entry)) binding key) ⌝ }
+{
     match refusals::of_count(head, table, binding) {
         Verdict::Refused(answer) => answer,
-        Verdict::Passes => Answer::Accepted(
-            table::count_of(table, head.used as usize, binding, key) as u32,
-        ),
+        Verdict::Passes => work::count(head, table, binding, key),
     }
 }

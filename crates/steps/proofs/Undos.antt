@@ -98,9 +98,11 @@ module _ {number : ℕ → ℕ} {cs : List Change} {strip : List ℕ} {n read us
             ∙ o .rest (backward number (i - 1) cs));
       }
 
-  pub undo-end : i ≡ 0 → Undoes (undoing strip (backward number n cs) Verdict.Passes read (postings used t₀)) b t (read + n)
+  pub undo-end :
+      (most : ℕ) → read + n ≤ most → i ≡ 0 →
+      Undoes (undoing strip (backward number n cs) Verdict.Passes read (postings used t₀)) b t most
   unfolding backward undoing
-  undo-end e =
+  undo-end most m e =
       let fe = z .few in
       let w = z .is ∙ ap (λ m. undoing strip (backward number m cs) (b .verdict) (b .read) (postings (b .used) t)) e in
       rw w (record { verdict = refl; holds = z .held; read = refl; few = omega arith })
@@ -146,12 +148,6 @@ recorded-backward cs (n ∷ ns) =
     named-reverse n (getD cs n noChange) (destinationOf (getD cs n noChange)) (recorded cs ns)
     ∙ (ap (λ ds. ds ++ named n (getD cs n noChange) (destinationOf (getD cs n noChange)) []) (recorded-backward cs ns)
     ∙ sym (backward-last cs n ns (length ns)))
-
--- a bound may be loose
-pub undoes-within : {u : Undone} {r : Back} {t : List ℕ} {most more : ℕ} → most ≤ more → Undoes u r t most → Undoes u r t more
-undoes-within h o =
-    let f = o .few in
-    record { verdict = o .verdict; holds = o .holds; read = o .read; few = omega arith }
 
 -- each number of a record that passed its check is a change's
 pub number-below :

@@ -9,7 +9,7 @@ use rules::Fault;
 use rules::Key;
 use rules::Posting;
 use rules::Verdict;
-ghost use Prim.Native.Nat.{_+_, _*_, _<_, _≤_};
+ghost use Prim.Native.Nat.{_+_, _*_, _^_, _<_, _≤_};
 ghost use mathlib.Core.Path.{_≡_};
 ghost use mathlib.Core.Bool.{true};
 ghost use mathlib.Core.List.{[], reverse};
@@ -105,7 +105,7 @@ fn remove_by(byte: u8, table: &mut [u32], used: usize, p: Posting) -> Removed
 fn undo_change(table: &mut [u32], list: &[u32], strip: &[u8], number: usize, so_far: Back) -> Back
     requires { ⌜ Held (now table) («so_far» .used) ⌝ }
     requires { ⌜ (number < length (changes (now list))) × (length (changes (now list)) ≤ mostChanges) ⌝ }
-    requires { ⌜ «so_far» .read ≤ length (changes (now list)) * 2 + 1 ⌝ }
+    requires { ⌜ «so_far» .read + 1 < 2 ^ 64 ⌝ }
     ensures { λ r. ⌜ UndoesOne (now (strip .entry)) number (getD (changes (now (list .entry))) number noChange) «so_far» (now (table .entry)) r (now (table .exit)) ⌝ }
 {
     let change = change_at(list, number);
@@ -169,9 +169,8 @@ fn undo_below(
 pub fn rollback(table: &mut [u32], list: &[u32], strip: &[u8], record: &[u32], used: usize) -> Back
     requires { ⌜ Held (now table) used × (length (changes (now list)) ≤ mostChanges) ⌝ }
     requires { ⌜ every (λ n. ltb n (length (changes (now list)))) (now «record») ≡ true ⌝ }
-    requires { ⌜ length (now «record») ≤ length (changes (now list)) ⌝ }
     ensures { λ r. ⌜ Undoes (undoing (now (strip .entry)) (reverse (recorded (changes (now (list .entry))) (now («record» .entry)))) Verdict.Passes 0 (postings used (now (table .entry))))
-        r (now (table .exit)) (length (changes (now (list .entry)))) ⌝ }
+        r (now (table .exit)) (length (now («record» .entry))) ⌝ }
 {
     let mut so_far = Back {
         verdict: Verdict::Passes,

@@ -1,5 +1,5 @@
 -- What is left of the record, undone from here, gives the whole.
-use Rattle.steps.proofs.Undos.{Undoing, undo-start, undo-turn, undo-end, undoes-within, recorded-backward, number-below}
+use Rattle.steps.proofs.Undos.{Undoing, undo-start, undo-turn, undo-end, recorded-backward, number-below}
 use Rattle.steps.specs.Leaving.{asRecorded}
 use Rattle.rules.specs.Orders.{changes}
 use lib.ListN.{length}
@@ -34,7 +34,7 @@ undo-change-requires : tie.Need-undo-change-requires Inv-loop μ-loop
 undo-change-requires c κs =
     let l = c .before .before .before .loop .inv .low in
     let f = c .before .before .before .loop .inv .few in
-    let b = number-below _ _ (c .before .before .before .loop .place - 1) (c .before .before .before .before .before .before .before .before .pre .1 .0) (omega arith) in
+    let b = number-below _ _ (c .before .before .before .loop .place - 1) (c .before .before .before .before .before .before .before .before .pre .1) (omega arith) in
     (c .before .before .before .loop .inv .held, ((b, c .before .before .before .before .before .before .before .before .pre .0 .1), omega arith))
 
 loop-less : tie.Need-loop-less Inv-loop μ-loop
@@ -47,7 +47,7 @@ same-length : tie.Need-same-length Inv-loop μ-loop
 same-length c = c .before .loop .inv .len
 
 returns : tie.Need-returns Inv-loop μ-loop
-returns c = rw (recorded-backward (changes (c .before .before .before .before .before .before .args .list .now)) (c .before .before .before .before .before .before .args .record .now)) (undoes-within (omega arith) (undo-end (c .before .loop .inv) (omega arith)))
+returns c = rw (recorded-backward (changes (c .before .before .before .before .before .before .args .list .now)) (c .before .before .before .before .before .before .args .record .now)) (undo-end (c .before .loop .inv) _ (omega arith) (omega arith))
 
 pub rollback-spec : {M : Type 1} → statement M
 rollback-spec =

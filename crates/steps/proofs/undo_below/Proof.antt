@@ -35,7 +35,7 @@ same-length : tie.Need-same-length Inv-loop μ-loop
 same-length c = c .before .loop .inv .len
 
 returns : tie.Need-returns Inv-loop μ-loop
-returns c = undo-end (c .before .loop .inv) (omega arith)
+returns c = undo-end (c .before .loop .inv) _ (omega arith) (omega arith)
 
 pub undo-below-spec : {M : Type 1} → statement M
 undo-below-spec =

@@ -1,0 +1,64 @@
+-- `copy` writes within its target, and answers no more than its length.
+use Prim.Native.Nat.{_≤_, _-_}
+use lib.ListN.{length}
+use mathlib.Core.Path.{_≡_}
+use borrow.Author.Needs.{needs}
+use Rattle.cases.proofs.lists.copy.Statement.{statement}
+use Rattle.cases.proofs.lists.copy.Tie as tie
+
+abbrev Inv-loop : tie.InvT-loop
+Inv-loop lists list target₀ end place₀ target place = ((place ≤ end) × (end ≤ length target)) × (length target ≡ length target₀)
+
+abbrev μ-loop : tie.MeasureT-loop
+μ-loop lists list target₀ end place₀ target place = end - place
+
+size-requires : tie.Need-size-requires Inv-loop μ-loop
+size-requires c κs = search needs
+
+least-requires : tie.Need-least-requires Inv-loop μ-loop
+least-requires c κs = search needs
+
+loop-holds : tie.Need-loop-holds Inv-loop μ-loop
+loop-holds c = search needs
+
+number-requires : tie.Need-number-requires Inv-loop μ-loop
+number-requires c κs = search needs
+
+mul-target : tie.Need-mul-target Inv-loop μ-loop
+mul-target c = search needs
+
+slice-write-target : tie.Need-slice-write-target Inv-loop μ-loop
+slice-write-target c = search needs
+
+add-place : tie.Need-add-place Inv-loop μ-loop
+add-place c = search needs
+
+loop-less : tie.Need-loop-less Inv-loop μ-loop
+loop-less c = search needs
+
+loop-again : tie.Need-loop-again Inv-loop μ-loop
+loop-again c = search needs
+
+same-length : tie.Need-same-length Inv-loop μ-loop
+same-length c = search needs
+
+returns : tie.Need-returns Inv-loop μ-loop
+returns c = search needs
+
+pub copy-spec : {M : Type 1} → statement M
+copy-spec =
+    tie.close
+    (tie.spec
+    Inv-loop
+    μ-loop
+    size-requires
+    least-requires
+    loop-holds
+    number-requires
+    mul-target
+    slice-write-target
+    add-place
+    loop-less
+    loop-again
+    same-length
+    returns)

@@ -1,0 +1,6 @@
+pub mod Guards
+pub mod Shape
+pub mod Failing
+pub mod Few
+pub mod Numbers
+pub mod Pairs

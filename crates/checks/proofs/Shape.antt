@@ -1,0 +1,90 @@
+-- Answers 3 and 4: the limits of lent lists, and what must hold of each change and byte from a place on.
+use Prim.Native.Nat.{ℕ, _+_, _/_, _%_, _<_, _≤_}
+use native.Mathlib.Omega.{arith}
+use mathlib.Core.Path.{_≡_, refl, _∙_}
+use mathlib.Core.List.{List, [], _∷_}
+use mathlib.Core.Bool.{Bool, true, false, _&&_, and-true, and-false}
+use lib.ListN.{length, drop, getD, length-drop, drop-of-length-le}
+use lib.Seq.{getD-drop, drop-drop}
+use lib.Dec.{leb}
+use borrow.Author.Tests.{le-leb, lt-leb, eq-eqb, ne-eqb}
+use Rattle.rules.specs.Limits.{mostChanges, mostGuards, mostBytes}
+use Rattle.rules.specs.Postings.{every}
+use Rattle.rules.specs.Orders.{properKey, changes, properChanges, properLists, properStrip}
+use Rattle.changes.proofs.Walk.{item-left}
+use Rattle.checks.specs.Walks.{properAt}
+use Rattle.checks.proofs.Guards.{guards-length}
+
+proper-front :
+    (l : List ℕ) → 6 ≤ length l →
+    properChanges l ≡ (properKey (getD l 2 0) (getD l 3 0) && properKey (getD l 4 0) (getD l 5 0) && properChanges (drop 6 l))
+unfolding properChanges
+proper-front [] h = absurd (omega arith)
+proper-front (a ∷ []) h = absurd (omega arith)
+proper-front (a ∷ b ∷ []) h = absurd (omega arith)
+proper-front (a ∷ b ∷ c ∷ []) h = absurd (omega arith)
+proper-front (a ∷ b ∷ c ∷ d ∷ []) h = absurd (omega arith)
+proper-front (a ∷ b ∷ c ∷ d ∷ e ∷ []) h = absurd (omega arith)
+proper-front (a ∷ b ∷ c ∷ d ∷ e ∷ f ∷ rest) h = refl
+
+pub proper-left :
+    (l : List ℕ) (first : ℕ) (b : Bool) → first + 6 ≤ length l → properAt l first ≡ b →
+    properChanges (drop first l) ≡ (b && properChanges (drop (first + 6) l))
+proper-left l first b h e =
+    let n : 6 ≤ length (drop first l) = rw (length-drop first l) (omega arith) in
+    proper-front (drop first l) n ∙ simp (getD-drop, drop-drop, e)
+
+pub proper-none : (l : List ℕ) (first : ℕ) → length l ≤ first → properChanges (drop first l) ≡ true
+unfolding properChanges
+proper-none l first h = rw (drop-of-length-le l h)
+
+-- a length that is no multiple of 6
+pub proper-not : (l : List ℕ) → (length l % 6 ≡ 0 → ⊥) → properChanges l ≡ false
+unfolding properChanges
+proper-not [] h = absurd (h refl)
+proper-not (a ∷ []) h = refl
+proper-not (a ∷ b ∷ []) h = refl
+proper-not (a ∷ b ∷ c ∷ []) h = refl
+proper-not (a ∷ b ∷ c ∷ d ∷ []) h = refl
+proper-not (a ∷ b ∷ c ∷ d ∷ e ∷ []) h = refl
+proper-not (a ∷ b ∷ c ∷ d ∷ e ∷ f ∷ rest) h =
+    rw (proper-not rest (λ k. h (omega arith))) (and-false (properKey c d && properKey e f))
+
+pub every-left :
+    (f : ℕ → Bool) (l : List ℕ) (i : ℕ) (b : Bool) → i < length l → f (getD l i 0) ≡ b →
+    every f (drop i l) ≡ (b && every f (drop (i + 1) l))
+unfolding every
+every-left f l i b h e = rw (item-left 0 l i h, e)
+
+pub every-none : (f : ℕ → Bool) (l : List ℕ) (i : ℕ) → length l ≤ i → every f (drop i l) ≡ true
+unfolding every
+every-none f l i h = rw (drop-of-length-le l h)
+
+module _ (cs gs : List ℕ) where
+  pub lists-over : mostChanges < length (changes cs) → properLists cs gs ≡ false
+  unfolding properLists
+  lists-over h = rw (lt-leb (length (changes cs)) mostChanges h, and-false)
+
+  pub lists-odd : (length gs % 2 ≡ 0 → ⊥) → properLists cs gs ≡ false
+  unfolding properLists
+  lists-odd h = rw (ne-eqb (length gs % 2) 0 h, and-false)
+
+  pub lists-crowded : mostGuards < length gs / 2 → properLists cs gs ≡ false
+  unfolding properLists
+  lists-crowded h = rw (guards-length gs, lt-leb (length gs / 2) mostGuards h, and-false)
+
+  pub lists-within :
+      length (changes cs) ≤ mostChanges → length gs % 2 ≡ 0 → length gs / 2 ≤ mostGuards → properLists cs gs ≡ properChanges cs
+  unfolding properLists
+  lists-within m e n =
+      rw (le-leb (length (changes cs)) mostChanges m, eq-eqb (length gs % 2) 0 e, guards-length gs, le-leb (length gs / 2) mostGuards n)
+      (simp and-true)
+
+pub strip-over : (strip : List ℕ) → mostBytes < length strip → properStrip strip ≡ false
+unfolding properStrip
+strip-over strip h = rw (lt-leb (length strip) mostBytes h)
+
+pub strip-within :
+    (strip : List ℕ) → length strip ≤ mostBytes → properStrip strip ≡ every (λ byte. leb byte 2) strip
+unfolding properStrip
+strip-within strip h = rw (le-leb (length strip) mostBytes h)

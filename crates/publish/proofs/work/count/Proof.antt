@@ -1,0 +1,31 @@
+-- A well-formed table has few postings, so their number fits.
+use Rattle.publish.proofs.Showing.{counted-most}
+use Rattle.table.proofs.Keeping.{well-formed-held}
+use Rattle.laws.proofs.Flat.{well-formed-parts}
+use Rattle.rules.specs.Table.{postings}
+use native.Mathlib.Omega.{arith}
+use borrow.Author.Needs.{needs}
+use Rattle.publish.proofs.work.count.Statement.{statement}
+use Rattle.publish.proofs.work.count.Tie as tie
+
+cast-count-of : tie.Need-cast-count-of
+cast-count-of c = search needs
+
+count-of-requires : tie.Need-count-of-requires
+count-of-requires c κs = well-formed-held _ _ (c .before .before .pre) .room
+
+cast-t7 : tie.Need-cast-t7
+cast-t7 c =
+    let h = well-formed-held _ _ (c .before .before .before .pre) in
+    let s = well-formed-parts _ _ (c .before .before .before .pre) .size in
+    let e = c .count-of .ensures in
+    let m = counted-most (c .before .before .before .args .binding) (c .before .before .before .args .key) (postings (c .before .before .before .args .head .used) (c .before .before .before .args .table .now)) in
+    let r = h .room in
+    let n = h .count in
+    omega arith
+
+returns : tie.Need-returns
+returns c = search needs
+
+pub count-spec : {M : Type 1} → statement M
+count-spec = tie.close (tie.spec cast-count-of count-of-requires cast-t7 returns)

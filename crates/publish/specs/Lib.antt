@@ -1,0 +1,2 @@
+-- What the promises of the public calls speak of.
+pub mod Promises

@@ -1,0 +1,2 @@
+-- The laws of the checks in their order.
+pub mod Firsts
