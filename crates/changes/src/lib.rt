@@ -2,6 +2,7 @@
 // that is there.
 use rules::Change;
 use rules::Key;
+use rules::Posting;
 ghost use Prim.Native.Nat.{_<_};
 ghost use mathlib.Core.Path.{_≡_};
 ghost use lib.ListN.{length, getD};
@@ -50,4 +51,15 @@ pub fn source_of(change: Change) -> Key
     ensures { λ r. ⌜ r ≡ sourceOf change ⌝ }
 {
     change.before
+}
+
+// The posting of a change under a key.
+pub fn posting_of(change: Change, key: u32) -> Posting
+    ensures { λ r. ⌜ r ≡ record { binding = change .binding; key = key; row = change .row } ⌝ }
+{
+    Posting {
+        binding: change.binding,
+        key,
+        row: change.row,
+    }
 }

@@ -4,6 +4,7 @@
 use changes::change_at;
 use changes::count_of;
 use changes::destination_of;
+use changes::posting_of;
 use changes::source_of;
 use rules::Answer;
 use rules::Change;
@@ -225,14 +226,7 @@ fn goes_to(list: &[u32], i: usize, p: Posting) -> bool
     let Key::Named(key) = destination_of(change) else {
         return false;
     };
-    table::equal(
-        Posting {
-            binding: change.binding,
-            key,
-            row: change.row,
-        },
-        p,
-    )
+    table::equal(posting_of(change, key), p)
 }
 
 // Two changes have one destination.
@@ -244,15 +238,7 @@ fn one_destination(list: &[u32], i: usize, j: usize) -> bool
     let Key::Named(key) = destination_of(change) else {
         return false;
     };
-    goes_to(
-        list,
-        i,
-        Posting {
-            binding: change.binding,
-            key,
-            row: change.row,
-        },
-    )
+    goes_to(list, i, posting_of(change, key))
 }
 
 // 7 TWICE: the first two equal destinations in order of j, then i.
@@ -289,15 +275,7 @@ fn is_present(table: &[u32], used: usize, change: Change) -> bool
     let Key::Named(key) = destination_of(change) else {
         return false;
     };
-    table::stands(
-        table,
-        used,
-        Posting {
-            binding: change.binding,
-            key,
-            row: change.row,
-        },
-    )
+    table::stands(table, used, posting_of(change, key))
 }
 
 // 8 PRESENT: the first destination that stands in the table.
@@ -338,14 +316,7 @@ fn overlaps(list: &[u32], change: Change) -> bool
     let Key::Named(key) = source_of(change) else {
         return false;
     };
-    is_destination(
-        list,
-        Posting {
-            binding: change.binding,
-            key,
-            row: change.row,
-        },
-    )
+    is_destination(list, posting_of(change, key))
 }
 
 // 9 OVERLAP: the first source that is a destination of the list, its own change's or another's.

@@ -3,6 +3,7 @@
 use changes::change_at;
 use changes::count_of;
 use changes::destination_of;
+use changes::posting_of;
 use changes::source_of;
 use rules::Answer;
 use rules::Fault;
@@ -112,16 +113,8 @@ fn undo_change(table: &mut [u32], list: &[u32], strip: &[u8], number: usize, so_
     let Key::Named(key) = destination_of(change) else {
         return so_far;
     };
-    let taken = remove_by(
-        byte_at(strip, so_far.read),
-        table,
-        so_far.used,
-        Posting {
-            binding: change.binding,
-            key,
-            row: change.row,
-        },
-    );
+    let posting = posting_of(change, key);
+    let taken = remove_by(byte_at(strip, so_far.read), table, so_far.used, posting);
     if taken.failed {
         return Back {
             verdict: Verdict::Refused(Answer::Undo(number as u32)),
@@ -234,16 +227,8 @@ pub fn prepare(table: &mut [u32], list: &[u32], strip: &[u8], used: usize) -> Re
             i += 1;
             continue;
         };
-        let put = insert_by(
-            byte_at(strip, read),
-            table,
-            used,
-            Posting {
-                binding: change.binding,
-                key,
-                row: change.row,
-            },
-        );
+        let posting = posting_of(change, key);
+        let put = insert_by(byte_at(strip, read), table, used, posting);
         read += 1;
         let fault = put.fault;
         match fault {
@@ -326,16 +311,8 @@ pub fn remove_sources(
             i += 1;
             continue;
         };
-        let taken = remove_by(
-            byte_at(strip, read),
-            table,
-            used,
-            Posting {
-                binding: change.binding,
-                key,
-                row: change.row,
-            },
-        );
+        let posting = posting_of(change, key);
+        let taken = remove_by(byte_at(strip, read), table, used, posting);
         used = taken.used;
         read += 1;
         if taken.failed {

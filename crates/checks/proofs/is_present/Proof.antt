@@ -16,14 +16,23 @@ enum-told c = search needs
 returns : tie.Need-returns
 returns c = rw (sym (c .before .before .destination-of .ensures) ∙ c .enum-told .given .1)
 
+posting-of-requires : tie.Need-posting-of-requires
+posting-of-requires c κs = search needs
+
 stands-requires : tie.Need-stands-requires
 stands-requires c κs = search needs
 
 returns-2 : tie.Need-returns-2
-returns-2 c =
-    rw (sym (c .before .before .before .before .destination-of .ensures) ∙ c .before .before .key .given .1) (c .stands .ensures)
+returns-2 c = rw (sym (c .before .before .before .before .before .destination-of .ensures) ∙ c .before .before .before .key .given .1, ← c .before .posting-of .ensures) (c .stands .ensures)
 
 pub is-present-spec : {M : Type 1} → statement M
 is-present-spec =
     tie.close
-    (tie.spec destination-of-requires enum-known-key enum-told returns stands-requires returns-2)
+    (tie.spec
+    destination-of-requires
+    enum-known-key
+    enum-told
+    returns
+    posting-of-requires
+    stands-requires
+    returns-2)

@@ -17,16 +17,16 @@ enum-told : tie.Need-enum-told
 enum-told c = search needs
 
 returns : tie.Need-returns
-returns c =
-    rw (← c .before .before .before .change-at .ensures, sym (c .before .before .destination-of .ensures) ∙ c .enum-told .given .1)
+returns c = rw (← c .before .before .before .change-at .ensures, sym (c .before .before .destination-of .ensures) ∙ c .enum-told .given .1)
+
+posting-of-requires : tie.Need-posting-of-requires
+posting-of-requires c κs = search needs
 
 goes-to-requires : tie.Need-goes-to-requires
 goes-to-requires c κs = search needs
 
 returns-2 : tie.Need-returns-2
-returns-2 c =
-    rw (← c .before .before .before .before .before .change-at .ensures, sym (c .before .before .before .before .destination-of .ensures) ∙ c .before .before .key .given .1)
-    (c .goes-to .ensures)
+returns-2 c = rw (← c .before .before .before .before .before .before .change-at .ensures, sym (c .before .before .before .before .before .destination-of .ensures) ∙ c .before .before .before .key .given .1, ← c .before .posting-of .ensures) (c .goes-to .ensures)
 
 pub one-destination-spec : {M : Type 1} → statement M
 one-destination-spec =
@@ -37,5 +37,6 @@ one-destination-spec =
     enum-known-key
     enum-told
     returns
+    posting-of-requires
     goes-to-requires
     returns-2)

@@ -16,12 +16,14 @@ enum-told c = search needs
 returns : tie.Need-returns
 returns c = rw (sym (c .before .before .source-of .ensures) ∙ c .enum-told .given .1)
 
+posting-of-requires : tie.Need-posting-of-requires
+posting-of-requires c κs = search needs
+
 is-destination-requires : tie.Need-is-destination-requires
 is-destination-requires c κs = search needs
 
 returns-2 : tie.Need-returns-2
-returns-2 c =
-    rw (sym (c .before .before .before .before .source-of .ensures) ∙ c .before .before .key .given .1) (c .is-destination .ensures)
+returns-2 c = rw (sym (c .before .before .before .before .before .source-of .ensures) ∙ c .before .before .before .key .given .1, ← c .before .posting-of .ensures) (c .is-destination .ensures)
 
 pub overlaps-spec : {M : Type 1} → statement M
 overlaps-spec =
@@ -31,5 +33,6 @@ overlaps-spec =
     enum-known-key
     enum-told
     returns
+    posting-of-requires
     is-destination-requires
     returns-2)

@@ -42,20 +42,23 @@ loop-less c = search needs
 loop-again : tie.Need-loop-again Inv-loop μ-loop
 loop-again c = prepare-pass (c .before .before .before .before .before .loop .inv) (omega arith) _ (c .before .before .before .change-at .ensures) (sym (c .before .before .destination-of .ensures) ∙ c .enum-told .given .1)
 
+posting-of-requires : tie.Need-posting-of-requires Inv-loop μ-loop
+posting-of-requires c κs = search needs
+
 byte-at-requires : tie.Need-byte-at-requires Inv-loop μ-loop
 byte-at-requires c κs = search needs
 
 insert-by-requires : tie.Need-insert-by-requires Inv-loop μ-loop
-insert-by-requires c κs = c .before .before .before .before .before .before .before .before .loop .inv .held
+insert-by-requires c κs = c .before .before .before .before .before .before .before .before .before .loop .inv .held
 
 add-read : tie.Need-add-read Inv-loop μ-loop
-add-read c = let f = c .before .before .before .before .before .before .before .before .before .before .before .loop .inv .few in let l = c .before .before .before .before .before .before .before .before .before .before .before .loop .inv .low in omega arith
+add-read c = let f = c .before .before .before .before .before .before .before .before .before .before .before .before .loop .inv .few in let l = c .before .before .before .before .before .before .before .before .before .before .before .before .loop .inv .low in omega arith
 
 enum-told-2 : tie.Need-enum-told-2 Inv-loop μ-loop
 enum-told-2 c = search needs
 
 add-inserted : tie.Need-add-inserted Inv-loop μ-loop
-add-inserted c = let s = c .before .before .before .before .before .before .before .before .before .before .before .before .before .loop .inv .some in let l = c .before .before .before .before .before .before .before .before .before .before .before .before .before .loop .inv .low in omega arith
+add-inserted c = let s = c .before .before .before .before .before .before .before .before .before .before .before .before .before .before .loop .inv .some in let l = c .before .before .before .before .before .before .before .before .before .before .before .before .before .before .loop .inv .low in omega arith
 
 add-i-2 : tie.Need-add-i-2 Inv-loop μ-loop
 add-i-2 c = search needs
@@ -64,7 +67,7 @@ loop-less-2 : tie.Need-loop-less-2 Inv-loop μ-loop
 loop-less-2 c = search needs
 
 loop-again-2 : tie.Need-loop-again-2 Inv-loop μ-loop
-loop-again-2 c = prepare-clear (c .before .before .before .before .before .before .before .before .before .before .before .before .before .loop .inv) (omega arith) _ (c .before .before .before .before .before .before .before .before .before .before .before .change-at .ensures) _ _ _ _ (sym (c .before .before .before .before .before .before .before .before .before .before .destination-of .ensures) ∙ c .before .before .before .before .before .before .before .before .key .given .1) (c .before .before .before .before .before .before .byte-at .ensures) (c .before .before .before .before .insert-by .ensures) (c .enum-told2 .given .1) (c .before .before .before .before .insert-by .kept .1 .0)
+loop-again-2 c = prepare-clear (c .before .before .before .before .before .before .before .before .before .before .before .before .before .before .loop .inv) (omega (arith, c .before .before .before .before .before .before .before .before .before .before .before .before .before .loop-test .taken, c .before .before .before .before .before .before .before .before .before .before .before .before .before .before .before .count-of .ensures)) _ (c .before .before .before .before .before .before .before .before .before .before .before .before .change-at .ensures) _ _ _ _ (sym (c .before .before .before .before .before .before .before .before .before .before .before .destination-of .ensures) ∙ c .before .before .before .before .before .before .before .before .before .key .given .1) (c .before .before .before .before .before .before .byte-at .ensures) (rw (c .before .before .before .before .before .before .before .posting-of .ensures) at (c .before .before .before .before .insert-by .ensures)) (c .enum-told2 .given .1) (c .before .before .before .before .insert-by .kept .1 .0)
 
 enum-told-3 : tie.Need-enum-told-3 Inv-loop μ-loop
 enum-told-3 c = search needs
@@ -74,15 +77,15 @@ cast-t22 c = search needs
 
 not-inserted-requires : tie.Need-not-inserted-requires Inv-loop μ-loop
 not-inserted-requires c κs =
-    let f = c .before .before .before .before .before .before .before .before .before .before .before .before .before .before .loop .inv .few in
-    let l = c .before .before .before .before .before .before .before .before .before .before .before .before .before .before .loop .inv .low in
-    (holds-held _ _ _ (c .before .before .before .before .before .insert-by .ensures .holds), ((l, c .before .before .before .before .before .before .before .before .before .before .before .before .before .before .before .before .before .before .before .pre .1), omega arith))
+    let f = c .before .before .before .before .before .before .before .before .before .before .before .before .before .before .before .loop .inv .few in
+    let l = c .before .before .before .before .before .before .before .before .before .before .before .before .before .before .before .loop .inv .low in
+    (holds-held _ _ _ (c .before .before .before .before .before .insert-by .ensures .holds), ((l, c .before .before .before .before .before .before .before .before .before .before .before .before .before .before .before .before .before .before .before .before .pre .1), omega arith))
 
 same-length : tie.Need-same-length Inv-loop μ-loop
-same-length c = c .before .before .not-inserted .kept .0 ∙ (c .before .before .before .before .before .before .before .before .insert-by .kept .1 .0 ∙ c .before .before .before .before .before .before .before .before .before .before .before .before .before .before .before .before .before .loop .inv .len)
+same-length c = c .before .before .not-inserted .kept .0 ∙ (c .before .before .before .before .before .before .before .before .insert-by .kept .1 .0 ∙ c .before .before .before .before .before .before .before .before .before .before .before .before .before .before .before .before .before .before .loop .inv .len)
 
 returns : tie.Need-returns Inv-loop μ-loop
-returns c = prepare-stop (c .before .before .before .before .before .before .before .before .before .before .before .before .before .before .before .before .before .loop .inv) (omega arith) _ (c .before .before .before .before .before .before .before .before .before .before .before .before .before .before .before .change-at .ensures) _ _ _ _ (sym (c .before .before .before .before .before .before .before .before .before .before .before .before .before .before .destination-of .ensures) ∙ c .before .before .before .before .before .before .before .before .before .before .before .before .key .given .1) (c .before .before .before .before .before .before .before .before .before .before .byte-at .ensures) (c .before .before .before .before .before .before .before .before .insert-by .ensures) _ _ _ _ (c .before .before .before .before .enum-told3 .given .1) refl (c .before .before .not-inserted .ensures)
+returns c = prepare-stop (c .before .before .before .before .before .before .before .before .before .before .before .before .before .before .before .before .before .before .loop .inv) (omega (arith, c .before .before .before .before .before .before .before .before .before .before .before .before .before .before .before .before .before .loop-test .taken, c .before .before .before .before .before .before .before .before .before .before .before .before .before .before .before .before .before .before .before .count-of .ensures)) _ (c .before .before .before .before .before .before .before .before .before .before .before .before .before .before .before .before .change-at .ensures) _ _ _ _ (sym (c .before .before .before .before .before .before .before .before .before .before .before .before .before .before .before .destination-of .ensures) ∙ c .before .before .before .before .before .before .before .before .before .before .before .before .before .key .given .1) (c .before .before .before .before .before .before .before .before .before .before .byte-at .ensures) (rw (c .before .before .before .before .before .before .before .before .before .before .before .posting-of .ensures) at (c .before .before .before .before .before .before .before .before .insert-by .ensures)) _ _ _ _ (c .before .before .before .before .enum-told3 .given .1) refl (c .before .before .not-inserted .ensures)
 
 enum-told-4 : tie.Need-enum-told-4 Inv-loop μ-loop
 enum-told-4 c = search needs
@@ -92,15 +95,15 @@ cast-t26 c = search needs
 
 not-inserted-requires-2 : tie.Need-not-inserted-requires-2 Inv-loop μ-loop
 not-inserted-requires-2 c κs =
-    let f = c .before .before .before .before .before .before .before .before .before .before .before .before .before .before .loop .inv .few in
-    let l = c .before .before .before .before .before .before .before .before .before .before .before .before .before .before .loop .inv .low in
-    (holds-held _ _ _ (c .before .before .before .before .before .insert-by .ensures .holds), ((l, c .before .before .before .before .before .before .before .before .before .before .before .before .before .before .before .before .before .before .before .pre .1), omega arith))
+    let f = c .before .before .before .before .before .before .before .before .before .before .before .before .before .before .before .loop .inv .few in
+    let l = c .before .before .before .before .before .before .before .before .before .before .before .before .before .before .before .loop .inv .low in
+    (holds-held _ _ _ (c .before .before .before .before .before .insert-by .ensures .holds), ((l, c .before .before .before .before .before .before .before .before .before .before .before .before .before .before .before .before .before .before .before .before .pre .1), omega arith))
 
 same-length-2 : tie.Need-same-length-2 Inv-loop μ-loop
-same-length-2 c = c .before .before .not-inserted2 .kept .0 ∙ (c .before .before .before .before .before .before .before .before .insert-by .kept .1 .0 ∙ c .before .before .before .before .before .before .before .before .before .before .before .before .before .before .before .before .before .loop .inv .len)
+same-length-2 c = c .before .before .not-inserted2 .kept .0 ∙ (c .before .before .before .before .before .before .before .before .insert-by .kept .1 .0 ∙ c .before .before .before .before .before .before .before .before .before .before .before .before .before .before .before .before .before .before .loop .inv .len)
 
 returns-2 : tie.Need-returns-2 Inv-loop μ-loop
-returns-2 c = prepare-stop (c .before .before .before .before .before .before .before .before .before .before .before .before .before .before .before .before .before .loop .inv) (omega arith) _ (c .before .before .before .before .before .before .before .before .before .before .before .before .before .before .before .change-at .ensures) _ _ _ _ (sym (c .before .before .before .before .before .before .before .before .before .before .before .before .before .before .destination-of .ensures) ∙ c .before .before .before .before .before .before .before .before .before .before .before .before .key .given .1) (c .before .before .before .before .before .before .before .before .before .before .byte-at .ensures) (c .before .before .before .before .before .before .before .before .insert-by .ensures) _ _ _ _ (c .before .before .before .before .enum-told4 .given .1) refl (c .before .before .not-inserted2 .ensures)
+returns-2 c = prepare-stop (c .before .before .before .before .before .before .before .before .before .before .before .before .before .before .before .before .before .before .loop .inv) (omega (arith, c .before .before .before .before .before .before .before .before .before .before .before .before .before .before .before .before .before .loop-test .taken, c .before .before .before .before .before .before .before .before .before .before .before .before .before .before .before .before .before .before .before .count-of .ensures)) _ (c .before .before .before .before .before .before .before .before .before .before .before .before .before .before .before .before .change-at .ensures) _ _ _ _ (sym (c .before .before .before .before .before .before .before .before .before .before .before .before .before .before .before .destination-of .ensures) ∙ c .before .before .before .before .before .before .before .before .before .before .before .before .before .key .given .1) (c .before .before .before .before .before .before .before .before .before .before .byte-at .ensures) (rw (c .before .before .before .before .before .before .before .before .before .before .before .posting-of .ensures) at (c .before .before .before .before .before .before .before .before .insert-by .ensures)) _ _ _ _ (c .before .before .before .before .enum-told4 .given .1) refl (c .before .before .not-inserted2 .ensures)
 
 same-length-3 : tie.Need-same-length-3 Inv-loop μ-loop
 same-length-3 c = c .before .loop .inv .len
@@ -123,6 +126,7 @@ prepare-spec =
     add-i
     loop-less
     loop-again
+    posting-of-requires
     byte-at-requires
     insert-by-requires
     add-read

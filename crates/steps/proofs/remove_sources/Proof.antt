@@ -42,23 +42,26 @@ loop-less c = search needs
 loop-again : tie.Need-loop-again Inv-loop μ-loop
 loop-again c = remove-pass (c .before .before .before .before .before .loop .inv) (omega arith) _ (c .before .before .before .change-at .ensures) (sym (c .before .before .source-of .ensures) ∙ c .enum-told .given .1)
 
+posting-of-requires : tie.Need-posting-of-requires Inv-loop μ-loop
+posting-of-requires c κs = search needs
+
 byte-at-requires : tie.Need-byte-at-requires Inv-loop μ-loop
 byte-at-requires c κs = search needs
 
 remove-by-requires : tie.Need-remove-by-requires Inv-loop μ-loop
-remove-by-requires c κs = c .before .before .before .before .before .before .before .before .loop .inv .held
+remove-by-requires c κs = c .before .before .before .before .before .before .before .before .before .loop .inv .held
 
 add-read : tie.Need-add-read Inv-loop μ-loop
-add-read c = let f = c .before .before .before .before .before .before .before .before .before .before .before .loop .inv .few in let l = c .before .before .before .before .before .before .before .before .before .before .before .loop .inv .low in omega (arith, changes-length (c .before .before .before .before .before .before .before .before .before .before .before .before .before .before .before .before .args .list .now))
+add-read c = let f = c .before .before .before .before .before .before .before .before .before .before .before .before .loop .inv .few in let l = c .before .before .before .before .before .before .before .before .before .before .before .before .loop .inv .low in omega (arith, changes-length (c .before .before .before .before .before .before .before .before .before .before .before .before .before .before .before .before .before .args .list .now))
 
 cast-t20 : tie.Need-cast-t20 Inv-loop μ-loop
 cast-t20 c = search needs
 
 same-length : tie.Need-same-length Inv-loop μ-loop
-same-length c = c .before .before .before .remove-by .kept .1 .0 ∙ c .before .before .before .before .before .before .before .before .before .before .before .before .loop .inv .len
+same-length c = c .before .before .before .remove-by .kept .1 .0 ∙ c .before .before .before .before .before .before .before .before .before .before .before .before .before .loop .inv .len
 
 returns : tie.Need-returns Inv-loop μ-loop
-returns c = remove-stop (c .before .before .before .before .before .before .before .before .before .before .before .before .loop .inv) (omega arith) _ (c .before .before .before .before .before .before .before .before .before .before .change-at .ensures) _ _ _ _ (sym (c .before .before .before .before .before .before .before .before .before .source-of .ensures) ∙ c .before .before .before .before .before .before .before .key .given .1) (c .before .before .before .before .before .byte-at .ensures) (c .before .before .before .remove-by .ensures) (c .if1 .taken)
+returns c = remove-stop (c .before .before .before .before .before .before .before .before .before .before .before .before .before .loop .inv) (omega arith) _ (c .before .before .before .before .before .before .before .before .before .before .before .change-at .ensures) _ _ _ _ (sym (c .before .before .before .before .before .before .before .before .before .before .source-of .ensures) ∙ c .before .before .before .before .before .before .before .before .key .given .1) (c .before .before .before .before .before .byte-at .ensures) (rw (c .before .before .before .before .before .before .posting-of .ensures) at (c .before .before .before .remove-by .ensures)) (c .if1 .taken)
 
 add-i-2 : tie.Need-add-i-2 Inv-loop μ-loop
 add-i-2 c = search needs
@@ -67,7 +70,7 @@ loop-less-2 : tie.Need-loop-less-2 Inv-loop μ-loop
 loop-less-2 c = search needs
 
 loop-again-2 : tie.Need-loop-again-2 Inv-loop μ-loop
-loop-again-2 c = remove-clear (c .before .before .before .before .before .before .before .before .before .before .before .before .loop .inv) (omega arith) _ (c .before .before .before .before .before .before .before .before .before .before .change-at .ensures) _ _ _ _ (sym (c .before .before .before .before .before .before .before .before .before .source-of .ensures) ∙ c .before .before .before .before .before .before .before .key .given .1) (c .before .before .before .before .before .byte-at .ensures) (c .before .before .before .remove-by .ensures) (c .if1 .left) (c .before .before .before .remove-by .kept .1 .0)
+loop-again-2 c = remove-clear (c .before .before .before .before .before .before .before .before .before .before .before .before .before .loop .inv) (omega arith) _ (c .before .before .before .before .before .before .before .before .before .before .before .change-at .ensures) _ _ _ _ (sym (c .before .before .before .before .before .before .before .before .before .before .source-of .ensures) ∙ c .before .before .before .before .before .before .before .before .key .given .1) (c .before .before .before .before .before .byte-at .ensures) (rw (c .before .before .before .before .before .before .posting-of .ensures) at (c .before .before .before .remove-by .ensures)) (c .if1 .left) (c .before .before .before .remove-by .kept .1 .0)
 
 same-length-2 : tie.Need-same-length-2 Inv-loop μ-loop
 same-length-2 c = c .before .loop .inv .len
@@ -90,6 +93,7 @@ remove-sources-spec =
     add-i
     loop-less
     loop-again
+    posting-of-requires
     byte-at-requires
     remove-by-requires
     add-read
