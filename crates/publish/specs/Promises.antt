@@ -1,10 +1,13 @@
--- What is seen after a call, and what the rules say is seen: each promise is that the two are equal.
+-- What is seen after a call, and what the rules say is seen. The promise of each call is that the two are equal.
 use Prim.Native.Nat.{ℕ}
+use mathlib.Core.Path.{_≡_}
 use mathlib.Core.List.{List}
 use Rattle.rules.specs.declared.Head.{Head}
+use Rattle.rules.specs.declared.Answer.{Answer}
 use Rattle.rules.specs.declared.Told.{Told}
 use Rattle.rules.specs.Answers.{toldOf}
-use Rattle.rules.specs.Calls.{Outcome}
+use Rattle.rules.specs.Checks.{Call}
+use Rattle.rules.specs.Calls.{Outcome, prepareOf, rollbackOf, removalOf, publishOf, countOf}
 use Rattle.publish.specs.declared.Done.{Done}
 
 -- the numbers of the answer, the head, and every number of the table and of the record list
@@ -25,3 +28,20 @@ seenOf o = record { told = toldOf (o .answer); head = o .head; table = o .table;
 -- a result as an outcome of the rules
 abbrev pub outcomeOf : Done → List ℕ → List ℕ → Outcome
 outcomeOf r table list = record { answer = r .answer; head = r .head; table = table; recordList = list }
+
+-- the promises: at entry head, table and what is lent; on return the result, the table and the record list
+abbrev pub Prepares : Head → List ℕ → Call → Done → List ℕ → List ℕ → Type 0
+Prepares head table c r table′ list′ = seen r table′ list′ ≡ seenOf (prepareOf head table c)
+
+abbrev pub RollsBack : Head → List ℕ → Call → Done → List ℕ → List ℕ → Type 0
+RollsBack head table c r table′ list′ = seen r table′ list′ ≡ seenOf (rollbackOf head table c)
+
+abbrev pub RemovesSources : Head → List ℕ → Call → Done → List ℕ → List ℕ → Type 0
+RemovesSources head table c r table′ list′ = seen r table′ list′ ≡ seenOf (removalOf head table c)
+
+abbrev pub Publishes : Head → List ℕ → Call → Done → List ℕ → List ℕ → Type 0
+Publishes head table c r table′ list′ = seen r table′ list′ ≡ seenOf (publishOf head table c)
+
+-- a count only reads: its answer is all that is seen
+abbrev pub Counts : Head → List ℕ → ℕ → ℕ → Answer → Type 0
+Counts head table binding key a = toldOf a ≡ toldOf (countOf head table binding key)

@@ -6,12 +6,9 @@ mod work;
 use rules::Answer;
 use rules::Head;
 use rules::Verdict;
-ghost use mathlib.Core.Path.{_≡_};
 ghost use mathlib.Core.List.{[]};
-ghost use Rattle.rules.specs.Answers.{toldOf};
-ghost use Rattle.rules.specs.Calls.{prepareOf, rollbackOf, removalOf, publishOf, countOf};
 ghost use Rattle.refusals.specs.Lending.{lending};
-ghost use Rattle.publish.specs.Promises.{seen, seenOf};
+ghost use Rattle.publish.specs.Promises.{Prepares, RollsBack, RemovesSources, Publishes, Counts};
 
 // What a call answers, and the head that it leaves.
 pub struct Done {
@@ -29,8 +26,7 @@ pub fn prepare_index_destinations(
     strip: &[u8],
     record: &mut [u32],
 ) -> Done
-    ensures { λ r. ⌜ seen r (now (table .exit)) (now («record» .exit))
-        ≡ seenOf (prepareOf head (now (table .entry)) (lending (now (changes .entry)) (now (guards .entry)) (now (strip .entry)) (now («record» .entry)))) ⌝ }
+    ensures { λ r. ⌜ Prepares head (now (table .entry)) (lending (now (changes .entry)) (now (guards .entry)) (now (strip .entry)) (now («record» .entry))) r (now (table .exit)) (now («record» .exit)) ⌝ }
 {
     match refusals::of_prepare(head, table, changes, guards, strip, record) {
         Verdict::Refused(answer) => Done { head, answer },
@@ -47,8 +43,7 @@ pub fn rollback_index_destinations(
     strip: &[u8],
     record: &[u32],
 ) -> Done
-    ensures { λ r. ⌜ seen r (now (table .exit)) (now («record» .entry))
-        ≡ seenOf (rollbackOf head (now (table .entry)) (lending (now (changes .entry)) (now (guards .entry)) (now (strip .entry)) (now («record» .entry)))) ⌝ }
+    ensures { λ r. ⌜ RollsBack head (now (table .entry)) (lending (now (changes .entry)) (now (guards .entry)) (now (strip .entry)) (now («record» .entry))) r (now (table .exit)) (now («record» .entry)) ⌝ }
 {
     match refusals::of_rollback(head, table, changes, guards, strip, record) {
         Verdict::Refused(answer) => Done { head, answer },
@@ -64,8 +59,7 @@ pub fn remove_index_sources(
     guards: &[u32],
     strip: &[u8],
 ) -> Done
-    ensures { λ r. ⌜ seen r (now (table .exit)) []
-        ≡ seenOf (removalOf head (now (table .entry)) (lending (now (changes .entry)) (now (guards .entry)) (now (strip .entry)) [])) ⌝ }
+    ensures { λ r. ⌜ RemovesSources head (now (table .entry)) (lending (now (changes .entry)) (now (guards .entry)) (now (strip .entry)) []) r (now (table .exit)) [] ⌝ }
 {
     match refusals::of_removal(head, table, changes, guards, strip) {
         Verdict::Refused(answer) => Done { head, answer },
@@ -82,8 +76,7 @@ pub fn publish(
     strip: &[u8],
     record: &mut [u32],
 ) -> Done
-    ensures { λ r. ⌜ seen r (now (table .exit)) (now («record» .exit))
-        ≡ seenOf (publishOf head (now (table .entry)) (lending (now (changes .entry)) (now (guards .entry)) (now (strip .entry)) (now («record» .entry)))) ⌝ }
+    ensures { λ r. ⌜ Publishes head (now (table .entry)) (lending (now (changes .entry)) (now (guards .entry)) (now (strip .entry)) (now («record» .entry))) r (now (table .exit)) (now («record» .exit)) ⌝ }
 {
     match refusals::of_publish(head, table, changes, guards, strip, record) {
         Verdict::Refused(answer) => Done { head, answer },
@@ -93,7 +86,7 @@ pub fn publish(
 
 // How many postings a binding and key have.
 pub fn count(head: Head, table: &[u32], binding: u32, key: u32) -> Answer
-    ensures { λ r. ⌜ toldOf r ≡ toldOf (countOf head (now (table .entry)) binding key) ⌝ }
+    ensures { λ r. ⌜ Counts head (now (table .entry)) binding key r ⌝ }
 {
     match refusals::of_count(head, table, binding) {
         Verdict::Refused(answer) => answer,
