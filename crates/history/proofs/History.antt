@@ -223,7 +223,7 @@ unfolding after
 spoilt-after x s [] = refl
 spoilt-after x s (c ∷ cs) = ap (λ (o : Outcome). after (indexOf o) cs) (spoilt-publish x s c) ∙ spoilt-after x s cs
 
-after-append : (x : Index) (cs more : List Call) → after x (cs ++ more) ≡ after (after x cs) more
+pub after-append : (x : Index) (cs more : List Call) → after x (cs ++ more) ≡ after (after x cs) more
 unfolding after
 after-append x [] more = refl
 after-append x (c ∷ cs) more = after-append (indexOf (published x c)) cs more

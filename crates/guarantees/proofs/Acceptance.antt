@@ -1,0 +1,53 @@
+-- The acceptance law, of the calls themselves: each answer is given exactly where its condition holds.
+use Prim.Native.Nat.{ℕ}
+use mathlib.Core.Path.{_≡_, sym, ap, _∙_}
+use mathlib.Core.List.{List}
+use mathlib.Core.Bool.{true}
+use mathlib.Core.Logic.{_↔_}
+use Rattle.rules.specs.declared.Answer.{Answer}
+use Rattle.rules.specs.declared.Head.{Head}
+use Rattle.rules.specs.Answers.{isAccepted}
+use Rattle.rules.specs.Checks.{Call}
+use Rattle.rules.specs.Calls.{Outcome, prepareOf, rollbackOf, removalOf, publishOf, countOf}
+use Rattle.laws.proofs.Answers.{told-injective}
+use Rattle.history.specs.Acceptance.{Acceptable, PublishAnswers, PrepareAnswers, RollbackAnswers, RemovalAnswers, CountAnswers, Leaves}
+use Rattle.history.proofs.Acceptance as law
+use Rattle.publish.specs.declared.Done.{Done}
+use Rattle.publish.specs.Promises.{seen, seenOf, outcomeOf, Prepares, RollsBack, RemovesSources, Publishes, Counts}
+use Rattle.publish.proofs.Outcomes.{seen-outcome}
+
+-- a result has the answer of the outcome that its promise says
+answer-of : (r : Done) (t l : List ℕ) (o : Outcome) → seen r t l ≡ seenOf o → r .answer ≡ o .answer
+answer-of r t l o e = ap (λ (x : Outcome). x .answer) (seen-outcome r t l o e)
+
+exchanged : {P : Answer → Type 0} (a b : Answer) → a ≡ b → ((c : Answer) → (b ≡ c) ↔ P c) → (c : Answer) → (a ≡ c) ↔ P c
+exchanged a b e f c = ((λ h. f c .0 (sym e ∙ h)), (λ k. e ∙ f c .1 k))
+
+module _ (head : Head) (table : List ℕ) (c : Call) (r : Done) (t l : List ℕ) where
+  pub prepare-exactly : Prepares head table c r t l → (a : Answer) → (r .answer ≡ a) ↔ PrepareAnswers head table c a
+  prepare-exactly k = exchanged _ _ (answer-of r t l (prepareOf head table c) k) (law.prepare-exactly head table c)
+
+  pub rollback-exactly : RollsBack head table c r t l → (a : Answer) → (r .answer ≡ a) ↔ RollbackAnswers head table c a
+  rollback-exactly k = exchanged _ _ (answer-of r t l (rollbackOf head table c) k) (law.rollback-exactly head table c)
+
+  pub removal-exactly : RemovesSources head table c r t l → (a : Answer) → (r .answer ≡ a) ↔ RemovalAnswers head table c a
+  removal-exactly k = exchanged _ _ (answer-of r t l (removalOf head table c) k) (law.removal-exactly head table c)
+
+  pub publish-exactly : Publishes head table c r t l → (a : Answer) → (r .answer ≡ a) ↔ PublishAnswers head table c a
+  publish-exactly k = exchanged _ _ (answer-of r t l (publishOf head table c) k) (law.publish-exactly head table c)
+
+  -- a publish is accepted exactly when no check applies, there is room, and every byte that it reads is 0
+  pub accepted-exactly : Publishes head table c r t l → (isAccepted (r .answer) ≡ true) ↔ Acceptable head table c
+  accepted-exactly k =
+      let e : r .answer ≡ publishOf head table c .answer = answer-of r t l (publishOf head table c) k in
+      rw e (law.accepted-exactly head table c)
+
+  -- and then leaves the postings and destinations less the sources
+  pub accepted-leaves : Publishes head table c r t l → Acceptable head table c → Leaves head table c (outcomeOf r t l)
+  accepted-leaves k a = rw (seen-outcome r t l (publishOf head table c) k) (law.accepted-leaves head table c a)
+
+pub count-exactly :
+    (head : Head) (table : List ℕ) (binding key : ℕ) (b : Answer) → Counts head table binding key b → (a : Answer) →
+    (b ≡ a) ↔ CountAnswers head table binding key a
+count-exactly head table binding key b k =
+    exchanged b _ (told-injective b (countOf head table binding key) k) (law.count-exactly head table binding key)

@@ -1,0 +1,3 @@
+-- The guarantees.
+pub mod Acceptance
+pub mod History
