@@ -5,10 +5,11 @@ use native.Mathlib.Omega.{arith}
 use mathlib.Core.Path.{_≡_, refl, _∙_}
 use mathlib.Core.List.{List, [], _∷_, _++_}
 use lib.ListN.{length, take, drop, getD, drop-of-length-le}
-use lib.Seq.{take-suc, length-take-le, drop-cons, getD-drop}
+use lib.Seq.{take-suc, length-take-le, getD-drop}
 use Rattle.rules.specs.declared.Key.{Key}
 use Rattle.rules.specs.declared.Change.{Change}
 use Rattle.rules.specs.Orders.{keyOf, changes, destinationOf, sourceOf, named, destinationsFrom, sourcesFrom, destinations, noChange}
+use Rattle.laws.proofs.Left.{item-left}
 
 pub changes-length : (l : List ℕ) → length (changes l) ≡ length l / 6
 unfolding changes
@@ -49,11 +50,6 @@ pub change-read :
     getD (changes l) i noChange ≡ record { binding = getD l (i * 6) 0; row = getD l (i * 6 + 1) 0; before = keyOf (getD l (i * 6 + 2) 0) (getD l (i * 6 + 3) 0); after = keyOf (getD l (i * 6 + 4) 0) (getD l (i * 6 + 5) 0) }
 unfolding changeOf
 change-read l i h = let n : i * 6 + 0 ≡ i * 6 = omega arith in change-of l i h ∙ simp (getD-drop, n)
-
--- what is left of any list at a place
-pub item-left :
-    {A : Type 0} (none : A) (xs : List A) (i : ℕ) → i < length xs → drop i xs ≡ getD xs i none ∷ drop (i + 1) xs
-item-left none xs i h = rw (add-one i) (drop-cons xs i none h)
 
 pub change-left : (cs : List Change) (i : ℕ) → i < length cs → drop i cs ≡ getD cs i noChange ∷ drop (i + 1) cs
 change-left cs i h = item-left noChange cs i h

@@ -14,7 +14,8 @@ use Rattle.rules.specs.Postings.{same, present}
 use Rattle.rules.specs.Orders.{destinationOf, sourceOf, Numbered, named, destinationsFrom, sourcesFrom, postingsOf, noChange}
 use Rattle.rules.specs.Checks.{must, orElse, firstFailing}
 use Rattle.laws.proofs.Ranks.{same-turned}
-use Rattle.changes.proofs.Walk.{item-left, destinations-left, sources-left, destinations-none, sources-none}
+use Rattle.laws.proofs.Left.{item-left}
+use Rattle.changes.proofs.Walk.{destinations-left, sources-left, destinations-none, sources-none}
 use Rattle.checks.specs.Walks.{underKey, goesTo}
 
 module _ {A : Type 0} (none : A) (test : A → Bool) (answer : ℕ → A → Answer) (xs : List A) (i : ℕ) where

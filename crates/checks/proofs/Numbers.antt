@@ -16,7 +16,7 @@ use Rattle.rules.specs.Orders.{destinationOf, noChange}
 use Rattle.rules.specs.Checks.{must, orElse, isNamed, recordable, among, recordFrom}
 use Rattle.laws.proofs.Tests.{and-left}
 use Rattle.laws.proofs.Names.{among-snoc}
-use Rattle.changes.proofs.Walk.{item-left}
+use Rattle.laws.proofs.Left.{item-left}
 use Rattle.checks.proofs.Few.{Few, none, more, few-length}
 
 -- what a number of the record means

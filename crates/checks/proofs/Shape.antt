@@ -11,7 +11,6 @@ use borrow.Author.Tests.{le-leb, lt-leb, eq-eqb, ne-eqb}
 use Rattle.rules.specs.Limits.{mostChanges, mostGuards, mostBytes}
 use Rattle.rules.specs.Postings.{every}
 use Rattle.rules.specs.Orders.{properKey, changes, properChanges, properLists, properStrip}
-use Rattle.changes.proofs.Walk.{item-left}
 use Rattle.checks.specs.Walks.{properAt}
 use Rattle.checks.proofs.Guards.{guards-length}
 
@@ -49,16 +48,6 @@ proper-not (a ∷ b ∷ c ∷ d ∷ []) h = refl
 proper-not (a ∷ b ∷ c ∷ d ∷ e ∷ []) h = refl
 proper-not (a ∷ b ∷ c ∷ d ∷ e ∷ f ∷ rest) h =
     rw (proper-not rest (λ k. h (omega arith))) (and-false (properKey c d && properKey e f))
-
-pub every-left :
-    (f : ℕ → Bool) (l : List ℕ) (i : ℕ) (b : Bool) → i < length l → f (getD l i 0) ≡ b →
-    every f (drop i l) ≡ (b && every f (drop (i + 1) l))
-unfolding every
-every-left f l i b h e = rw (item-left 0 l i h, e)
-
-pub every-none : (f : ℕ → Bool) (l : List ℕ) (i : ℕ) → length l ≤ i → every f (drop i l) ≡ true
-unfolding every
-every-none f l i h = rw (drop-of-length-le l h)
 
 module _ (cs gs : List ℕ) where
   pub lists-over : mostChanges < length (changes cs) → properLists cs gs ≡ false

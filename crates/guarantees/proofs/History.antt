@@ -7,14 +7,13 @@ use mathlib.Core.Bool.{Bool, true, false, cond, not, _&&_}
 use Rattle.rules.specs.declared.Answer.{Answer}
 use Rattle.rules.specs.declared.Head.{Head}
 use Rattle.rules.specs.declared.Posting.{Posting}
-use Rattle.rules.specs.Postings.{present, counted}
 use Rattle.rules.specs.Table.{wellFormed}
 use Rattle.rules.specs.Answers.{isAccepted, poisons}
 use Rattle.rules.specs.Checks.{Call}
-use Rattle.rules.specs.Calls.{Outcome, publishOf, countOf}
+use Rattle.rules.specs.Calls.{Outcome, countOf}
 use Rattle.laws.proofs.Answers.{told-injective}
 use Rattle.history.specs.History as claim
-use Rattle.history.specs.History.{Index, published, indexOf, after, outcomes, unbroken, accepted, acceptedOutcomes, said, ownCount, quiet, Holds, Alike}
+use Rattle.history.specs.History.{Index, published, indexOf, after, outcomes, unbroken, accepted, acceptedOutcomes, said, ownCount, Holds}
 use Rattle.history.proofs.History.{after-append, right-or-withheld}
 use Rattle.publish.proofs.Outcomes.{seen-outcome}
 use Rattle.publish.specs.declared.Done.{Done}

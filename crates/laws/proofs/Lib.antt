@@ -1,4 +1,5 @@
 pub mod Tests
+pub mod Left
 pub mod Ranks
 pub mod Lists
 pub mod Sorted

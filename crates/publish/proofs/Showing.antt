@@ -1,7 +1,7 @@
 -- What a part of a call reached, shown in the lent table with its head and record list, is what the rules show.
 use Prim.Native.Nat.{ℕ, suc, _^_, _<_, _≤_}
 use native.Mathlib.Omega.{arith}
-use mathlib.Core.Path.{_≡_, refl, sym, ap, _∙_}
+use mathlib.Core.Path.{_≡_, sym, ap, _∙_}
 use mathlib.Core.List.{List, [], _∷_}
 use mathlib.Core.Bool.{Bool, true, false, cond, _&&_}
 use lib.ListN.{length}
@@ -15,7 +15,7 @@ use Rattle.rules.specs.Table.{postings, laidOut, wellFormed}
 use Rattle.rules.specs.Orders.{Numbered, numbersOf}
 use Rattle.rules.specs.Answers.{isAccepted, poisons, settled}
 use Rattle.rules.specs.Publication.{Undone, Stage, removing, rolledBack, thenSources}
-use Rattle.rules.specs.Calls.{Outcome, headWith, shown, written, recordAfter}
+use Rattle.rules.specs.Calls.{headWith, shown, written, recordAfter}
 use Rattle.laws.proofs.Tests.{by-cases}
 use Rattle.laws.proofs.Flat.{well-formed-parts}
 use Rattle.table.specs.Holding.{Holds}

@@ -7,7 +7,7 @@ use answers::settle;
 use rules::Answer;
 use rules::Head;
 use steps::Reached;
-ghost use Prim.Native.Nat.{_*_, _≤_, _<_, _^_};
+ghost use Prim.Native.Nat.{_≤_, _<_, _^_};
 ghost use mathlib.Core.Path.{_≡_};
 ghost use mathlib.Core.List.{[], reverse};
 ghost use mathlib.Core.Bool.{true, cond};

@@ -14,9 +14,9 @@ use Rattle.rules.specs.Limits.{mostChanges, mostGuards}
 use Rattle.rules.specs.Postings.{every}
 use Rattle.rules.specs.Table.{wellFormed}
 use Rattle.rules.specs.Orders.{changes, guards, properChanges, properLists, destinationOf, noChange}
-use Rattle.rules.specs.Checks.{Call, changesOf, must, orElse, firstRefusal, tableCheck, poisonCheck, listCheck, stripCheck, roomCheck, guardCheck, isNamed, recordable, among, recordFrom, recordCheck, twiceCheck, presentCheck, overlapCheck, prepareChecks, rollbackChecks, removalChecks, publishChecks, countChecks}
+use Rattle.rules.specs.Checks.{must, orElse, firstRefusal, tableCheck, poisonCheck, listCheck, stripCheck, roomCheck, guardCheck, isNamed, recordable, among, recordFrom, recordCheck, twiceCheck, presentCheck, overlapCheck, prepareChecks, rollbackChecks, removalChecks, publishChecks, countChecks}
 use Rattle.laws.proofs.Tests.{and-left, and-right, both}
-use Rattle.laws.proofs.Checks.{must-holds, first-passes, rest-passes, else-first, else-second}
+use Rattle.laws.proofs.Checks.{must-holds, first-passes, else-first, else-second}
 use Rattle.refusals.specs.Lending.{lending}
 
 -- one part of the checks, and where it passes the others

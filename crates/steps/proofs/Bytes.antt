@@ -1,20 +1,18 @@
 -- One insertion and one removal by the strip's byte, in a table that holds its postings.
-use Prim.Native.Nat.{ℕ, _+_, _/_, _≤_, _<_}
-use mathlib.Core.Path.{_≡_, refl, sym, ap, _∙_}
-use mathlib.Core.List.{List, _∷_}
+use Prim.Native.Nat.{ℕ, _≤_, _<_}
+use mathlib.Core.Path.{_≡_, refl, ap, _∙_}
+use mathlib.Core.List.{List}
 use mathlib.Core.Bool.{Bool, true, false, not}
 use lib.ListN.{length}
 use lib.Dec.{eqb}
-use borrow.Author.Tests.{eq-eqb, ne-eqb}
+use borrow.Author.Tests.{ne-eqb}
 use Rattle.rules.specs.declared.Posting.{Posting}
 use Rattle.rules.specs.declared.Fault.{Fault}
 use Rattle.rules.specs.Postings.{inserted, removed}
 use Rattle.rules.specs.Table.{postings}
 use Rattle.rules.specs.Storage.{insertion, removal}
-use Rattle.laws.proofs.Steps.{insertion-clear, insertion-full, insertion-store, removal-clear, removal-keeps}
+use Rattle.laws.proofs.Steps.{insertion-clear, insertion-full, insertion-store, removal-keeps}
 use Rattle.table.specs.Holding.{Holds, Held}
-use Rattle.steps.specs.declared.Inserted.{Inserted}
-use Rattle.steps.specs.declared.Removed.{Removed}
 use Rattle.steps.specs.Leaving.{Inserts, Removes}
 
 module _ (byte capacity used : ℕ) (p : Posting) (t : List ℕ) (h : Held t used) where

@@ -1,5 +1,5 @@
 -- Prepare: the turns of its walk up the changes.
-use Prim.Native.Nat.{ℕ, suc, _+_, _*_, _<_, _≤_}
+use Prim.Native.Nat.{ℕ, _+_, _*_, _<_, _≤_}
 use native.Mathlib.Omega.{arith}
 use native.Mathlib.Numerals.{add-one}
 use mathlib.Core.Path.{_≡_, refl, sym, ap, _∙_}
@@ -16,7 +16,7 @@ use Rattle.rules.specs.Orders.{Numbered, byteAt, named, destinationOf, destinat
 use Rattle.rules.specs.Storage.{insertion}
 use Rattle.rules.specs.Publication.{undoing, notInserted, byFault, preparing}
 use Rattle.changes.proofs.Walk.{destinations-left, destinations-none}
-use Rattle.table.specs.Holding.{Holds, Held}
+use Rattle.table.specs.Holding.{Held}
 use Rattle.table.proofs.Keeping.{holds-postings, holds-held}
 use Rattle.steps.specs.declared.Inserted.{Inserted}
 use Rattle.steps.specs.declared.Reached.{Reached}

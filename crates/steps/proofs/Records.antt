@@ -3,7 +3,7 @@ use Prim.Native.Nat.{ℕ, suc, _+_, _<_, _≤_}
 use native.Mathlib.Omega.{arith}
 use native.Mathlib.Numerals.{add-one}
 use mathlib.Core.Path.{_≡_, refl, sym, ap, _∙_}
-use mathlib.Core.List.{List, [], _∷_, _++_, append-assoc}
+use mathlib.Core.List.{List, _∷_, _++_}
 use lib.ListN.{length, take, drop, set, getD, length-set, take-append-drop}
 use lib.Seq.{take-suc-set, drop-set-lt, drop-drop, append-snoc}
 use Rattle.rules.specs.declared.Change.{Change}

@@ -1,8 +1,8 @@
 -- Source removal: the turns of its walk up the changes.
-use Prim.Native.Nat.{ℕ, _+_, _*_, _<_, _≤_}
+use Prim.Native.Nat.{ℕ, _+_, _<_, _≤_}
 use native.Mathlib.Omega.{arith}
 use mathlib.Core.Path.{_≡_, refl, sym, ap, _∙_}
-use mathlib.Core.List.{List, [], _∷_}
+use mathlib.Core.List.{List, _∷_}
 use mathlib.Core.Bool.{Bool, true, false, cond}
 use lib.ListN.{length, drop, getD}
 use Rattle.rules.specs.declared.Change.{Change}
@@ -12,12 +12,11 @@ use Rattle.rules.specs.declared.Answer.{Answer}
 use Rattle.rules.specs.Table.{postings}
 use Rattle.rules.specs.Orders.{Numbered, byteAt, named, sourceOf, sourcesFrom, noChange}
 use Rattle.rules.specs.Storage.{removal}
-use Rattle.rules.specs.Publication.{Stage, removing}
+use Rattle.rules.specs.Publication.{removing}
 use Rattle.changes.proofs.Walk.{sources-left, sources-none}
-use Rattle.table.specs.Holding.{Holds, Held}
+use Rattle.table.specs.Holding.{Held}
 use Rattle.table.proofs.Keeping.{holds-postings, holds-held}
 use Rattle.steps.specs.declared.Removed.{Removed}
-use Rattle.steps.specs.declared.Reached.{Reached}
 use Rattle.steps.specs.Leaving.{Removes, Reaches}
 
 -- a source removal that has come up to i

@@ -3,7 +3,7 @@ use Prim.Native.Nat.{ℕ, zero, suc, _+_, _-_, _<_, _≤_}
 use native.Mathlib.Omega.{arith}
 use mathlib.Core.Path.{_≡_, refl, sym, ap, _∙_}
 use mathlib.Core.List.{List, [], _∷_, _++_, reverse, reverseAux-eq, append-nil}
-use mathlib.Core.Bool.{Bool, true, false, cond}
+use mathlib.Core.Bool.{Bool, true, cond}
 use lib.ListN.{length, getD}
 use lib.Dec.{ltb}
 use borrow.Author.Tests.{ltb-true}
@@ -18,11 +18,11 @@ use Rattle.rules.specs.Storage.{removal}
 use Rattle.rules.specs.Postings.{every}
 use Rattle.rules.specs.Publication.{Undone, undoing, whyNot, notInserted}
 use Rattle.laws.proofs.Tests.{and-left, and-right}
-use Rattle.table.specs.Holding.{Holds, Held}
+use Rattle.table.specs.Holding.{Held}
 use Rattle.table.proofs.Keeping.{holds-postings, holds-held}
 use Rattle.steps.specs.declared.Removed.{Removed}
 use Rattle.steps.specs.declared.Back.{Back}
-use Rattle.steps.specs.Leaving.{Removes, Undoes, UndoesOne, Reaches, backward, inOrder, asRecorded}
+use Rattle.steps.specs.Leaving.{Removes, Undoes, UndoesOne, Reaches, backward, asRecorded}
 
 -- a change with no destination leaves all as it is
 pub undone-none :

@@ -1,8 +1,8 @@
 -- A table that holds its postings holds them after an insertion and after a removal.
 use Prim.Native.Nat.{ℕ, suc, _+_, _-_, _*_, _<_, _≤_}
 use native.Mathlib.Omega.{arith}
-use mathlib.Core.Path.{_≡_, refl, sym, ap, _∙_}
-use mathlib.Core.List.{List, [], _∷_, _++_}
+use mathlib.Core.Path.{_≡_, sym, ap, _∙_}
+use mathlib.Core.List.{List, _∷_, _++_}
 use mathlib.Core.Bool.{true}
 use lib.ListN.{length, take, drop, length-append, length-drop}
 use lib.Seq.{length-take-le}
@@ -12,7 +12,7 @@ use Rattle.rules.specs.Postings.{ascending, inserted, removed}
 use Rattle.rules.specs.Table.{postings, laidOut, wellFormed}
 use Rattle.laws.proofs.Lists.{length-inserted}
 use Rattle.laws.proofs.Sorted.{ascending-inserted, ascending-removed}
-use Rattle.laws.proofs.Flat.{WellFormed, well-formed-parts, used-postings, laid-out-same, postings-laid-out, length-laid-out}
+use Rattle.laws.proofs.Flat.{well-formed-parts, used-postings, laid-out-same, postings-laid-out, length-laid-out}
 use Rattle.table.specs.declared.Place.{Place}
 use Rattle.table.specs.Holding.{Holds, Held, placeOf, blank}
 use Rattle.table.specs.Shifts.{stored, raised, lowered}

@@ -5,7 +5,7 @@ use native.Mathlib.Omega.{arith}
 use native.Mathlib.Numerals.{add-one}
 use mathlib.Core.Path.{_≡_, refl, sym, ap, _∙_}
 use mathlib.Core.List.{List, [], _∷_, _++_, append-assoc}
-use lib.ListN.{length, getD, take, drop, set, replicate, length-append, length-drop, length-replicate, length-set, take-append-drop, List·getD-append}
+use lib.ListN.{length, getD, take, drop, set, replicate, length-append, length-drop, length-replicate, take-append-drop, List·getD-append}
 use lib.Seq.{slice, slice-empty, slice-cons, length-slice, length-take-le, take-suc, append-snoc, set-at, getD-take, getD-append-add, getD-drop, drop-cons, drop-append-le, drop-append-add, drop-append-seam, take-append-add, take-append-seam, take-at, drop-at, drop-drop, sets-eq}
 use Rattle.rules.specs.declared.Posting.{Posting}
 use Rattle.rules.specs.Table.{numbers, laidOut}

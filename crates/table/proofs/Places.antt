@@ -5,12 +5,12 @@ use native.Mathlib.Omega.{arith}
 use mathlib.Core.Path.{_≡_, refl, sym, ap, _∙_}
 use mathlib.Core.Logic.{_⊎_, inl, inr}
 use mathlib.Core.List.{List, [], _∷_, _++_}
-use mathlib.Core.Bool.{Bool, true, false, cond, _||_}
+use mathlib.Core.Bool.{Bool, true, false, cond}
 use lib.ListN.{length, take, drop}
 use Rattle.rules.specs.declared.Posting.{Posting}
 use Rattle.rules.specs.declared.Order.{Order}
 use Rattle.rules.specs.Postings.{compared, isBefore, isSame, same, chain, ascending, present, placed, inserted, removed}
-use Rattle.laws.proofs.Tests.{clash, or-left, or-right, neither}
+use Rattle.laws.proofs.Tests.{clash}
 use Rattle.laws.proofs.Ranks.{compared-self, compared-same, after-before, before-after, before-before, same-self}
 use Rattle.laws.proofs.Lists.{removed-absent}
 use Rattle.laws.proofs.Sorted.{chain-before, chain-rest, chain-cons, ascending-rest, absent-before}

@@ -1,12 +1,11 @@
 -- What is left of the postings in use where a walk has come to a place: the posting read there, and the rest.
 use Prim.Native.Nat.{ℕ, zero, suc, _+_, _-_, _*_, _<_, _≤_}
 use native.Mathlib.Omega.{arith}
-use native.Mathlib.Numerals.{add-one}
 use mathlib.Core.Path.{_≡_, refl, sym, ap, _∙_}
 use mathlib.Core.List.{List, [], _∷_}
-use mathlib.Core.Bool.{Bool, true, false, cond, _&&_}
-use lib.ListN.{length, getD, take, drop, length-drop, drop-of-length-le}
-use lib.Seq.{drop-cons, getD-take, length-take-le}
+use mathlib.Core.Bool.{Bool, true, false, cond, _&&_, and-true, and-false}
+use lib.ListN.{length, getD, drop, length-drop, drop-of-length-le}
+use lib.Seq.{getD-take, length-take-le}
 use lib.Dec.{eqb, ltb}
 use borrow.Author.Tests.{ltb-true, lt-ltb}
 use Rattle.rules.specs.declared.Posting.{Posting}
@@ -14,6 +13,7 @@ use Rattle.rules.specs.declared.Order.{Order}
 use Rattle.rules.specs.Postings.{every, ranked, compared, isBefore, chain, ascending, bucket, within}
 use Rattle.rules.specs.Table.{cells, postings}
 use Rattle.laws.proofs.Tests.{and-left}
+use Rattle.laws.proofs.Left.{item-left}
 use Rattle.laws.proofs.Ranks.{Tri, less, equal, more, tri, ranked-more}
 use Rattle.laws.proofs.Sorted.{chain-before, chain-rest}
 use Rattle.table.specs.Holding.{blank}
@@ -30,7 +30,7 @@ module _ (t : List ℕ) (used : ℕ) (room : used * 3 ≤ length t) where
       (i : ℕ) → i < used → drop i (postings used t) ≡ getD (cells t) i blank ∷ drop (i + 1) (postings used t)
   posting-left i h =
       let k : i < length (postings used t) = rw length-postings h in
-      rw (add-one, drop-cons (postings used t) i blank k, getD-take used (cells t) i blank h)
+      item-left blank (postings used t) i k ∙ rw (getD-take used (cells t) i blank h)
 
 -- the postings that a walk has before it, the one just read first
 module _ (t : List ℕ) (used : ℕ) (room : used * 3 ≤ length t) (i : ℕ) (h : i < used) (q : Posting)
@@ -77,17 +77,6 @@ pub none-counted : (binding key : ℕ) → length (bucket binding key []) ≡ 0
 unfolding bucket
 none-counted binding key = refl
 
--- zeros from a place on
-pub zeros-left :
-    (l : List ℕ) (i : ℕ) → i < length l → (b : Bool) → eqb 0 (getD l i 0) ≡ b →
-    every (eqb 0) (drop i l) ≡ (b && every (eqb 0) (drop (i + 1) l))
-unfolding every
-zeros-left l i h b e = rw (drop-cons l i 0 h, add-one i, e)
-
-pub zeros-none : (l : List ℕ) (i : ℕ) → length l ≤ i → every (eqb 0) (drop i l) ≡ true
-unfolding every
-zeros-none l i h = rw (drop-of-length-le l h)
-
 binding-before : (p q : Posting) → compared p q ≡ Order.Before → p .binding ≤ q .binding
 unfolding compared
 binding-before p q e = go (tri (p .binding) (q .binding))
@@ -98,14 +87,6 @@ binding-before p q e = go (tri (p .binding) (q .binding))
     go (more h) =
         let z : _≡_ {A = ℕ} 0 1 = cc (e, ranked-more (p .binding) (q .binding) (ranked (p .key) (q .key) (ranked (p .row) (q .row) Order.Same)) h) in
         absurd (omega arith)
-
-pub and-true : (b : Bool) → (b && true) ≡ b
-and-true true = refl
-and-true false = refl
-
-and-false : (b : Bool) → (b && false) ≡ false
-and-false true = refl
-and-false false = refl
 
 -- in an ascending list the last posting has the greatest binding, so it alone decides
 pub within-last :

@@ -2,7 +2,7 @@
 use Prim.Native.Nat.{ℕ, suc, _*_, _≤_}
 use mathlib.Core.Path.{_≡_}
 use mathlib.Core.List.{List, [], _∷_}
-use mathlib.Core.Bool.{Bool, true, cond}
+use mathlib.Core.Bool.{true, cond}
 use lib.ListN.{length}
 use Rattle.rules.specs.declared.Posting.{Posting}
 use Rattle.rules.specs.Postings.{compared, isBefore, ascending, present}

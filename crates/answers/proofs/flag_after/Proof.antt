@@ -1,10 +1,9 @@
 -- 12 and 13, and no other number.
-use Rattle.rules.specs.Answers.{toldOf}
-use Rattle.rules.specs.declared.Told.{Told}
-use borrow.Author.Tests.{eq-eqb, ne-eqb}
-use lib.Dec.{eqb}
 use mathlib.Core.Path.{_≡_, sym, ap, _∙_}
 use borrow.Author.Needs.{needs}
+use borrow.Author.Tests.{eq-eqb, ne-eqb}
+use Rattle.rules.specs.Answers.{toldOf}
+use Rattle.rules.specs.declared.Told.{Told}
 use Rattle.answers.proofs.flag_after.Statement.{statement}
 use Rattle.answers.proofs.flag_after.Tie as tie
 

@@ -1,8 +1,8 @@
 -- By the number.
-use Rattle.rules.specs.declared.Told.{Told}
-use lib.Dec.{eqb}
 use mathlib.Core.Path.{ap}
+use lib.Dec.{eqb}
 use borrow.Author.Needs.{needs}
+use Rattle.rules.specs.declared.Told.{Told}
 use Rattle.answers.proofs.is_accepted.Statement.{statement}
 use Rattle.answers.proofs.is_accepted.Tie as tie
 

@@ -1,8 +1,8 @@
 -- Each arm is a clause of the definition.
-use Rattle.rules.specs.Answers.{settled}
-use Rattle.rules.specs.declared.Verdict.{Verdict}
 use mathlib.Core.Path.{sym, ap}
 use borrow.Author.Needs.{needs}
+use Rattle.rules.specs.Answers.{settled}
+use Rattle.rules.specs.declared.Verdict.{Verdict}
 use Rattle.answers.proofs.settle.Statement.{statement}
 use Rattle.answers.proofs.settle.Tie as tie
 

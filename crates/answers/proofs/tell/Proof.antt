@@ -1,7 +1,7 @@
 -- Each arm is a clause of the definition.
-use Rattle.rules.specs.Answers.{toldOf}
 use mathlib.Core.Path.{sym, ap, _∙_}
 use borrow.Author.Needs.{needs}
+use Rattle.rules.specs.Answers.{toldOf}
 use Rattle.answers.proofs.tell.Statement.{statement}
 use Rattle.answers.proofs.tell.Tie as tie
 

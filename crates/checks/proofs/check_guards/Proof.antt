@@ -1,13 +1,13 @@
 -- `check_guards` walks the changes: at each turn what the whole list is answered is what the rest is.
 use Prim.Native.Nat.{_-_, _≤_}
 use native.Mathlib.Omega.{arith}
-use mathlib.Core.Path.{_≡_, sym, _∙_}
 use mathlib.Core.Bool.{true, false}
-use borrow.Author.Needs.{needs}
+use mathlib.Core.Path.{_≡_, sym, _∙_}
 use lib.ListN.{drop}
-use Rattle.rules.specs.declared.Answer.{Answer}
-use Rattle.rules.specs.Orders.{changes, guards, noChange}
+use borrow.Author.Needs.{needs}
 use Rattle.rules.specs.Checks.{firstFailing, guarded}
+use Rattle.rules.specs.Orders.{changes, guards, noChange}
+use Rattle.rules.specs.declared.Answer.{Answer}
 use Rattle.checks.proofs.Failing.{failing-left, failing-none}
 use Rattle.checks.proofs.check_guards.Statement.{statement}
 use Rattle.checks.proofs.check_guards.Tie as tie

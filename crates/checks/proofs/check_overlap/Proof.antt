@@ -1,13 +1,13 @@
 -- `check_overlap` walks the changes: at each turn what all sources are answered is what the rest are.
 use Prim.Native.Nat.{_-_, _≤_}
 use native.Mathlib.Omega.{arith}
-use mathlib.Core.Path.{_≡_, sym, _∙_}
 use mathlib.Core.Bool.{true, false}
-use borrow.Author.Needs.{needs}
+use mathlib.Core.Path.{_≡_, sym, _∙_}
 use lib.ListN.{drop}
-use Rattle.rules.specs.declared.Answer.{Answer}
-use Rattle.rules.specs.Postings.{present}
+use borrow.Author.Needs.{needs}
 use Rattle.rules.specs.Orders.{changes, destinations, sourcesFrom, sources, postingsOf}
+use Rattle.rules.specs.Postings.{present}
+use Rattle.rules.specs.declared.Answer.{Answer}
 use Rattle.checks.proofs.Failing.{firstOf, first-source, no-source}
 use Rattle.checks.proofs.check_overlap.Statement.{statement}
 use Rattle.checks.proofs.check_overlap.Tie as tie

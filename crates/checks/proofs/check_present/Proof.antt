@@ -1,14 +1,14 @@
 -- `check_present` walks the changes: at each turn what all destinations are answered is what the rest are.
 use Prim.Native.Nat.{_-_, _≤_}
 use native.Mathlib.Omega.{arith}
-use mathlib.Core.Path.{_≡_, sym, _∙_}
 use mathlib.Core.Bool.{true, false}
-use borrow.Author.Needs.{needs}
+use mathlib.Core.Path.{_≡_, sym, _∙_}
 use lib.ListN.{drop}
-use Rattle.rules.specs.declared.Answer.{Answer}
+use borrow.Author.Needs.{needs}
+use Rattle.rules.specs.Orders.{changes, destinationsFrom, destinations}
 use Rattle.rules.specs.Postings.{present}
 use Rattle.rules.specs.Table.{postings}
-use Rattle.rules.specs.Orders.{changes, destinationsFrom, destinations}
+use Rattle.rules.specs.declared.Answer.{Answer}
 use Rattle.checks.proofs.Failing.{firstOf, first-destination, no-destination}
 use Rattle.checks.proofs.check_present.Statement.{statement}
 use Rattle.checks.proofs.check_present.Tie as tie

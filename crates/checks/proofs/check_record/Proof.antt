@@ -1,12 +1,12 @@
 -- `check_record` walks the record: the numbers behind are few, since each means another change, so that a place fits a u32.
 use Prim.Native.Nat.{_-_, _≤_}
 use native.Mathlib.Omega.{arith}
-use mathlib.Core.Path.{_≡_, sym, _∙_}
 use mathlib.Core.List.{[]}
-use borrow.Author.Needs.{needs}
+use mathlib.Core.Path.{_≡_, sym, _∙_}
 use lib.ListN.{length}
-use Rattle.rules.specs.Orders.{changes}
+use borrow.Author.Needs.{needs}
 use Rattle.rules.specs.Checks.{recordFrom}
+use Rattle.rules.specs.Orders.{changes}
 use Rattle.checks.proofs.Few.{Few}
 use Rattle.checks.proofs.Numbers.{behind, recordLeft, few-none, few-places, record-all, record-passes, record-means-nothing, record-repeats, record-more, record-none}
 use Rattle.checks.proofs.check_record.Statement.{statement}

@@ -1,12 +1,12 @@
 -- `check_twice` seeks, for each change, an earlier one with its destination; it leaves both loops where it finds one.
 use Prim.Native.Nat.{_-_, _≤_}
 use native.Mathlib.Omega.{arith}
-use mathlib.Core.Path.{_≡_, sym, _∙_}
 use mathlib.Core.List.{[]}
 use mathlib.Core.Logic.{⊎-elim}
+use mathlib.Core.Path.{_≡_, sym, _∙_}
 use borrow.Author.Needs.{needs}
-use Rattle.rules.specs.Orders.{changes, destinations}
 use Rattle.rules.specs.Checks.{twiceFrom}
+use Rattle.rules.specs.Orders.{changes, destinations}
 use Rattle.checks.proofs.Pairs.{seek, pairsFrom, pairs-all, pairs-none, seek-further, pairs-found, pairs-further}
 use Rattle.checks.proofs.check_twice.Statement.{statement}
 use Rattle.checks.proofs.check_twice.Tie as tie

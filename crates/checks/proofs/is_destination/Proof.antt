@@ -1,12 +1,12 @@
 -- `is_destination` walks the changes: the posting is a destination of the whole list if it is one of the rest.
 use Prim.Native.Nat.{_-_, _≤_}
 use native.Mathlib.Omega.{arith}
-use mathlib.Core.Path.{_≡_, sym, _∙_}
 use mathlib.Core.Bool.{true, false}
-use borrow.Author.Needs.{needs}
+use mathlib.Core.Path.{_≡_, sym, _∙_}
 use lib.ListN.{drop}
-use Rattle.rules.specs.Postings.{present}
+use borrow.Author.Needs.{needs}
 use Rattle.rules.specs.Orders.{changes, destinationsFrom, destinations, postingsOf}
+use Rattle.rules.specs.Postings.{present}
 use Rattle.checks.proofs.Failing.{present-left, present-none}
 use Rattle.checks.proofs.is_destination.Statement.{statement}
 use Rattle.checks.proofs.is_destination.Tie as tie

@@ -1,11 +1,11 @@
 -- `is_held` looks at guard after guard.
 use Prim.Native.Nat.{_*_, _-_, _≤_}
 use native.Mathlib.Omega.{arith}
-use mathlib.Core.Path.{_≡_, sym, _∙_}
 use mathlib.Core.Logic.{inl, inr, ⊎-elim}
+use mathlib.Core.Path.{_≡_, sym, _∙_}
+use lib.ListN.{drop}
 use borrow.Author.Needs.{needs}
 use borrow.Author.Tests.{eqb-true, eqb-false}
-use lib.ListN.{drop}
 use Rattle.rules.specs.Orders.{guards, held}
 use Rattle.checks.proofs.Guards.{held-here, held-further, held-none}
 use Rattle.checks.proofs.is_held.Statement.{statement}

@@ -1,10 +1,10 @@
 -- `proper_changes` judges change by change: at each turn the whole list is proper if what is left is.
 use Prim.Native.Nat.{_+_, _-_, _%_, _≤_}
 use native.Mathlib.Omega.{arith}
-use mathlib.Core.Path.{_≡_, sym, _∙_}
 use mathlib.Core.Bool.{true, false}
-use borrow.Author.Needs.{needs}
+use mathlib.Core.Path.{_≡_, sym, _∙_}
 use lib.ListN.{length, drop}
+use borrow.Author.Needs.{needs}
 use Rattle.rules.specs.Orders.{properChanges}
 use Rattle.checks.proofs.Shape.{proper-left, proper-none, proper-not}
 use Rattle.checks.proofs.proper_changes.Statement.{statement}

@@ -1,15 +1,16 @@
 -- `proper_strip` judges byte by byte, once the length is known to be within its limit.
 use Prim.Native.Nat.{_-_, _≤_}
 use native.Mathlib.Omega.{arith}
-use mathlib.Core.Path.{_≡_, sym, _∙_}
 use mathlib.Core.Bool.{true, false}
-use borrow.Author.Needs.{needs}
-use borrow.Author.Tests.{le-leb, lt-leb}
+use mathlib.Core.Path.{_≡_, sym, _∙_}
 use lib.Dec.{leb}
 use lib.ListN.{length, drop}
-use Rattle.rules.specs.Postings.{every}
+use borrow.Author.Needs.{needs}
+use borrow.Author.Tests.{le-leb, lt-leb}
 use Rattle.rules.specs.Orders.{properStrip}
-use Rattle.checks.proofs.Shape.{every-left, every-none, strip-over, strip-within}
+use Rattle.rules.specs.Postings.{every}
+use Rattle.laws.proofs.Left.{every-left, every-none}
+use Rattle.checks.proofs.Shape.{strip-over, strip-within}
 use Rattle.checks.proofs.proper_strip.Statement.{statement}
 use Rattle.checks.proofs.proper_strip.Tie as tie
 
@@ -31,7 +32,7 @@ shared-slice-read-if2 c = search needs
 returns-2 : tie.Need-returns-2 Inv-loop μ-loop
 returns-2 c =
     let at = c .before .before .before in
-    sym (at .loop .inv .1 ∙ every-left _ (at .before .before .args .strip .now) (at .loop .i) false (c .before .before .loop-test .taken) (lt-leb _ _ (c .if2 .taken)))
+    sym (at .loop .inv .1 ∙ every-left _ 0 (at .before .before .args .strip .now) (at .loop .i) false (c .before .before .loop-test .taken) (lt-leb _ _ (c .if2 .taken)))
 
 add-i : tie.Need-add-i Inv-loop μ-loop
 add-i c = search needs
@@ -42,7 +43,7 @@ loop-less c = search needs
 loop-again : tie.Need-loop-again Inv-loop μ-loop
 loop-again c =
     let at = c .before .before .before in
-    (omega arith, at .loop .inv .1 ∙ every-left _ (at .before .before .args .strip .now) (at .loop .i) true (c .before .before .loop-test .taken) (le-leb _ _ (c .if2 .left)))
+    (omega arith, at .loop .inv .1 ∙ every-left _ 0 (at .before .before .args .strip .now) (at .loop .i) true (c .before .before .loop-test .taken) (le-leb _ _ (c .if2 .left)))
 
 returns-3 : tie.Need-returns-3 Inv-loop μ-loop
 returns-3 c =

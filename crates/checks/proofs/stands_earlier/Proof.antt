@@ -1,11 +1,11 @@
 -- `stands_earlier` looks at number after number before the place.
 use Prim.Native.Nat.{_-_, _≤_}
 use native.Mathlib.Omega.{arith}
-use mathlib.Core.Path.{_≡_, sym, _∙_}
 use mathlib.Core.Bool.{true, false}
+use mathlib.Core.Path.{_≡_, sym, _∙_}
+use lib.ListN.{take, drop}
 use borrow.Author.Needs.{needs}
 use borrow.Author.Tests.{eq-eqb, ne-eqb}
-use lib.ListN.{take, drop}
 use Rattle.rules.specs.Checks.{among}
 use Rattle.checks.proofs.Numbers.{among-left, among-none}
 use Rattle.checks.proofs.stands_earlier.Statement.{statement}

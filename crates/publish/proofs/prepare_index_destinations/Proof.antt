@@ -1,10 +1,10 @@
 -- The refusal, or else the work.
-use Rattle.publish.specs.Promises.{seenOf}
-use Rattle.refusals.proofs.Firsts.{prepare-few}
-use Rattle.laws.proofs.Checks.{prepare-clear}
-use Rattle.rules.specs.Calls.{prepareOf}
 use mathlib.Core.Path.{sym, ap, _∙_}
 use borrow.Author.Needs.{needs}
+use Rattle.rules.specs.Calls.{prepareOf}
+use Rattle.laws.proofs.Checks.{prepare-clear}
+use Rattle.refusals.proofs.Firsts.{prepare-few}
+use Rattle.publish.specs.Promises.{seenOf}
 use Rattle.publish.proofs.prepare_index_destinations.Statement.{statement}
 use Rattle.publish.proofs.prepare_index_destinations.Tie as tie
 

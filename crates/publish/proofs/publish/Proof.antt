@@ -1,10 +1,10 @@
 -- The refusal, or else the work.
-use Rattle.publish.specs.Promises.{seenOf}
-use Rattle.refusals.proofs.Firsts.{publish-few}
-use Rattle.laws.proofs.Checks.{publish-clear}
-use Rattle.rules.specs.Calls.{publishOf}
 use mathlib.Core.Path.{sym, ap, _∙_}
 use borrow.Author.Needs.{needs}
+use Rattle.rules.specs.Calls.{publishOf}
+use Rattle.laws.proofs.Checks.{publish-clear}
+use Rattle.refusals.proofs.Firsts.{publish-few}
+use Rattle.publish.specs.Promises.{seenOf}
 use Rattle.publish.proofs.publish.Statement.{statement}
 use Rattle.publish.proofs.publish.Tie as tie
 

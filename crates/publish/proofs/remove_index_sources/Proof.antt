@@ -1,10 +1,10 @@
 -- The refusal, or else the work.
-use Rattle.publish.specs.Promises.{seenOf}
-use Rattle.refusals.proofs.Firsts.{removal-few}
-use Rattle.laws.proofs.Checks.{removal-formed}
-use Rattle.rules.specs.Calls.{removalOf}
 use mathlib.Core.Path.{sym, ap, _∙_}
 use borrow.Author.Needs.{needs}
+use Rattle.rules.specs.Calls.{removalOf}
+use Rattle.laws.proofs.Checks.{removal-formed}
+use Rattle.refusals.proofs.Firsts.{removal-few}
+use Rattle.publish.specs.Promises.{seenOf}
 use Rattle.publish.proofs.remove_index_sources.Statement.{statement}
 use Rattle.publish.proofs.remove_index_sources.Tie as tie
 

@@ -1,10 +1,10 @@
 -- The refusal, or else the work.
-use Rattle.publish.specs.Promises.{seenOf}
-use Rattle.refusals.proofs.Firsts.{rollback-few, rollback-below}
-use Rattle.laws.proofs.Checks.{rollback-formed}
-use Rattle.rules.specs.Calls.{rollbackOf}
 use mathlib.Core.Path.{sym, ap, _∙_}
 use borrow.Author.Needs.{needs}
+use Rattle.rules.specs.Calls.{rollbackOf}
+use Rattle.laws.proofs.Checks.{rollback-formed}
+use Rattle.refusals.proofs.Firsts.{rollback-few, rollback-below}
+use Rattle.publish.specs.Promises.{seenOf}
 use Rattle.publish.proofs.rollback_index_destinations.Statement.{statement}
 use Rattle.publish.proofs.rollback_index_destinations.Tie as tie
 

@@ -1,11 +1,11 @@
 -- Table and flag, then the binding.
-use Rattle.refusals.proofs.Firsts.{ends, goes-on, count-parts}
-use Rattle.rules.specs.Checks.{must}
-use Rattle.rules.specs.declared.Answer.{Answer}
-use borrow.Author.Tests.{lt-ltb, le-ltb}
 use mathlib.Core.Bool.{Bool}
 use mathlib.Core.Path.{sym, ap, _∙_}
 use borrow.Author.Needs.{needs}
+use borrow.Author.Tests.{lt-ltb, le-ltb}
+use Rattle.rules.specs.Checks.{must}
+use Rattle.rules.specs.declared.Answer.{Answer}
+use Rattle.refusals.proofs.Firsts.{ends, goes-on, count-parts}
 use Rattle.refusals.proofs.of_count.Statement.{statement}
 use Rattle.refusals.proofs.of_count.Tie as tie
 

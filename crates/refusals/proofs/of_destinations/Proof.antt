@@ -1,9 +1,9 @@
 -- The first of the three that refuses.
-use Rattle.refusals.proofs.Firsts.{ends, goes-on, destinations-parts}
-use Rattle.table.proofs.Keeping.{well-formed-held}
-use Rattle.rules.specs.Checks.{guardCheck, twiceCheck, presentCheck}
-use mathlib.Core.Path.{sym, ap, _∙_}
+use mathlib.Core.Path.{sym, _∙_}
 use borrow.Author.Needs.{needs}
+use Rattle.rules.specs.Checks.{guardCheck, twiceCheck, presentCheck}
+use Rattle.table.proofs.Keeping.{well-formed-held}
+use Rattle.refusals.proofs.Firsts.{ends, goes-on, destinations-parts}
 use Rattle.refusals.proofs.of_destinations.Statement.{statement}
 use Rattle.refusals.proofs.of_destinations.Tie as tie
 

@@ -1,7 +1,7 @@
 -- The lists, then the strip.
-use Rattle.rules.specs.Checks.{firstRefusal, listCheck, stripCheck}
 use mathlib.Core.Path.{sym, _∙_}
 use borrow.Author.Needs.{needs}
+use Rattle.rules.specs.Checks.{firstRefusal, listCheck, stripCheck}
 use Rattle.refusals.proofs.of_lists.Statement.{statement}
 use Rattle.refusals.proofs.of_lists.Tie as tie
 

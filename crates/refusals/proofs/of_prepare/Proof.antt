@@ -1,7 +1,7 @@
 -- Part by part, to the first that refuses.
-use Rattle.refusals.proofs.Firsts.{ends, goes-on, prepare-parts, table-formed, lists-few}
-use mathlib.Core.Path.{sym, ap, _∙_}
+use mathlib.Core.Path.{sym, _∙_}
 use borrow.Author.Needs.{needs}
+use Rattle.refusals.proofs.Firsts.{ends, goes-on, prepare-parts, table-formed, lists-few}
 use Rattle.refusals.proofs.of_prepare.Statement.{statement}
 use Rattle.refusals.proofs.of_prepare.Tie as tie
 

@@ -1,8 +1,8 @@
 -- The checks of prepare, then the overlap.
-use Rattle.refusals.proofs.Firsts.{ends, goes-on, publish-parts, prepare-few}
-use Rattle.rules.specs.Checks.{overlapCheck}
-use mathlib.Core.Path.{sym, ap, _∙_}
+use mathlib.Core.Path.{sym, _∙_}
 use borrow.Author.Needs.{needs}
+use Rattle.rules.specs.Checks.{overlapCheck}
+use Rattle.refusals.proofs.Firsts.{ends, goes-on, publish-parts, prepare-few}
 use Rattle.refusals.proofs.of_publish.Statement.{statement}
 use Rattle.refusals.proofs.of_publish.Tie as tie
 

@@ -1,9 +1,9 @@
 -- Part by part, to the first that refuses.
-use Rattle.refusals.proofs.Firsts.{ends, goes-on, removal-parts, lists-few}
-use Rattle.rules.specs.Checks.{guardCheck}
 use mathlib.Core.List.{[]}
-use mathlib.Core.Path.{sym, ap, _∙_}
+use mathlib.Core.Path.{sym, _∙_}
 use borrow.Author.Needs.{needs}
+use Rattle.rules.specs.Checks.{guardCheck}
+use Rattle.refusals.proofs.Firsts.{ends, goes-on, removal-parts, lists-few}
 use Rattle.refusals.proofs.of_removal.Statement.{statement}
 use Rattle.refusals.proofs.of_removal.Tie as tie
 

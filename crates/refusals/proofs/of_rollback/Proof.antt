@@ -1,8 +1,8 @@
 -- The checks of removal, then the record.
-use Rattle.refusals.proofs.Firsts.{ends, goes-on, rollback-parts, removal-few}
-use Rattle.rules.specs.Checks.{recordCheck}
-use mathlib.Core.Path.{sym, ap, _∙_}
+use mathlib.Core.Path.{sym, _∙_}
 use borrow.Author.Needs.{needs}
+use Rattle.rules.specs.Checks.{recordCheck}
+use Rattle.refusals.proofs.Firsts.{ends, goes-on, rollback-parts, removal-few}
 use Rattle.refusals.proofs.of_rollback.Statement.{statement}
 use Rattle.refusals.proofs.of_rollback.Tie as tie
 

@@ -1,7 +1,7 @@
 -- A place for each change.
-use Rattle.rules.specs.Checks.{roomCheck}
-use borrow.Author.Tests.{le-leb, lt-leb}
 use borrow.Author.Needs.{needs}
+use borrow.Author.Tests.{le-leb, lt-leb}
+use Rattle.rules.specs.Checks.{roomCheck}
 use Rattle.refusals.proofs.of_room.Statement.{statement}
 use Rattle.refusals.proofs.of_room.Tie as tie
 

@@ -1,8 +1,8 @@
 -- Well formed, then the flag.
-use Rattle.rules.specs.Checks.{firstRefusal, tableCheck, poisonCheck}
-use borrow.Author.Tests.{eq-eqb, ne-eqb}
 use mathlib.Core.Path.{sym, _∙_}
 use borrow.Author.Needs.{needs}
+use borrow.Author.Tests.{eq-eqb, ne-eqb}
+use Rattle.rules.specs.Checks.{firstRefusal, tableCheck, poisonCheck}
 use Rattle.refusals.proofs.of_table.Statement.{statement}
 use Rattle.refusals.proofs.of_table.Tie as tie
 

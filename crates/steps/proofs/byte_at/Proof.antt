@@ -1,6 +1,6 @@
 -- Past the end reads 0.
-use lib.ListN.{List·getD-eq-default}
 use mathlib.Core.Path.{sym}
+use lib.ListN.{List·getD-eq-default}
 use borrow.Author.Needs.{needs}
 use Rattle.steps.proofs.byte_at.Statement.{statement}
 use Rattle.steps.proofs.byte_at.Tie as tie

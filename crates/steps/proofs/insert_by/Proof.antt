@@ -1,6 +1,6 @@
 -- By the byte, and by the room.
-use Rattle.steps.proofs.Bytes.{insert-stored, insert-clear, insert-full}
 use borrow.Author.Needs.{needs}
+use Rattle.steps.proofs.Bytes.{insert-stored, insert-clear, insert-full}
 use Rattle.steps.proofs.insert_by.Statement.{statement}
 use Rattle.steps.proofs.insert_by.Tie as tie
 

@@ -1,11 +1,11 @@
 -- What is left of the list, prepared from here, gives the whole; a failed insertion ends it with the undo.
-use Rattle.steps.proofs.Insertions.{Preparing, prepare-start, prepare-pass, prepare-clear, prepare-stop, prepare-end}
-use Rattle.table.proofs.Keeping.{holds-held}
-use Rattle.rules.specs.Orders.{changes}
 use Prim.Native.Nat.{_-_}
-use mathlib.Core.Path.{_≡_, refl, sym, _∙_}
 use native.Mathlib.Omega.{arith}
+use mathlib.Core.Path.{refl, sym, _∙_}
 use borrow.Author.Needs.{needs}
+use Rattle.rules.specs.Orders.{changes}
+use Rattle.table.proofs.Keeping.{holds-held}
+use Rattle.steps.proofs.Insertions.{Preparing, prepare-start, prepare-pass, prepare-clear, prepare-stop, prepare-end}
 use Rattle.steps.proofs.prepare.Statement.{statement}
 use Rattle.steps.proofs.prepare.Tie as tie
 

@@ -1,7 +1,7 @@
 -- By the byte.
-use Rattle.steps.proofs.Bytes.{remove-kept, remove-gone}
 use mathlib.Core.Path.{refl}
 use borrow.Author.Needs.{needs}
+use Rattle.steps.proofs.Bytes.{remove-kept, remove-gone}
 use Rattle.steps.proofs.remove_by.Statement.{statement}
 use Rattle.steps.proofs.remove_by.Tie as tie
 

@@ -1,11 +1,11 @@
 -- What is left of the list, done from here, gives the whole.
-use Rattle.steps.proofs.Removals.{Removing, remove-start, remove-pass, remove-clear, remove-stop, remove-end}
-use Rattle.changes.proofs.Walk.{changes-length}
-use Rattle.rules.specs.Orders.{changes}
 use Prim.Native.Nat.{_-_}
-use mathlib.Core.Path.{_≡_, sym, ap, _∙_}
 use native.Mathlib.Omega.{arith}
+use mathlib.Core.Path.{sym, _∙_}
 use borrow.Author.Needs.{needs}
+use Rattle.rules.specs.Orders.{changes}
+use Rattle.changes.proofs.Walk.{changes-length}
+use Rattle.steps.proofs.Removals.{Removing, remove-start, remove-pass, remove-clear, remove-stop, remove-end}
 use Rattle.steps.proofs.remove_sources.Statement.{statement}
 use Rattle.steps.proofs.remove_sources.Tie as tie
 

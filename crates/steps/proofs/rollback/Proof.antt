@@ -1,11 +1,11 @@
 -- What is left of the record, undone from here, gives the whole.
-use Rattle.steps.proofs.Undos.{Undoing, undo-start, undo-turn, undo-end, recorded-backward, number-below}
-use Rattle.steps.specs.Leaving.{asRecorded}
-use Rattle.rules.specs.Orders.{changes}
-use lib.ListN.{length}
 use Prim.Native.Nat.{_-_}
 use native.Mathlib.Omega.{arith}
+use lib.ListN.{length}
 use borrow.Author.Needs.{needs}
+use Rattle.rules.specs.Orders.{changes}
+use Rattle.steps.specs.Leaving.{asRecorded}
+use Rattle.steps.proofs.Undos.{Undoing, undo-start, undo-turn, undo-end, recorded-backward, number-below}
 use Rattle.steps.proofs.rollback.Statement.{statement}
 use Rattle.steps.proofs.rollback.Tie as tie
 

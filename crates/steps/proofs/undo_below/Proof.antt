@@ -1,9 +1,9 @@
 -- What is left to undo, done from here, gives the whole.
-use Rattle.steps.proofs.Undos.{Undoing, undo-start, undo-turn, undo-end}
-use Rattle.steps.specs.Leaving.{inOrder}
-use Rattle.rules.specs.Orders.{changes}
 use native.Mathlib.Omega.{arith}
 use borrow.Author.Needs.{needs}
+use Rattle.rules.specs.Orders.{changes}
+use Rattle.steps.specs.Leaving.{inOrder}
+use Rattle.steps.proofs.Undos.{Undoing, undo-start, undo-turn, undo-end}
 use Rattle.steps.proofs.undo_below.Statement.{statement}
 use Rattle.steps.proofs.undo_below.Tie as tie
 

@@ -1,9 +1,9 @@
 -- A change with no destination is passed over; else its posting is removed by the next byte.
-use Rattle.steps.proofs.Undos.{undone-none, undone-one}
 use native.Mathlib.Omega.{arith}
 use mathlib.Core.Bool.{true, false}
 use mathlib.Core.Path.{sym, _∙_}
 use borrow.Author.Needs.{needs}
+use Rattle.steps.proofs.Undos.{undone-none, undone-one}
 use Rattle.steps.proofs.undo_change.Statement.{statement}
 use Rattle.steps.proofs.undo_change.Tie as tie
 

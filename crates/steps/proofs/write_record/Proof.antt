@@ -1,10 +1,10 @@
 -- What is written, and what is left to write, give the whole.
-use Rattle.steps.proofs.Records.{Recording, record-start, record-pass, record-turn, record-end}
-use Rattle.rules.specs.Orders.{changes}
 use Prim.Native.Nat.{_-_}
-use mathlib.Core.Path.{_≡_, sym, ap, _∙_}
 use native.Mathlib.Omega.{arith}
+use mathlib.Core.Path.{sym, _∙_}
 use borrow.Author.Needs.{needs}
+use Rattle.rules.specs.Orders.{changes}
+use Rattle.steps.proofs.Records.{Recording, record-start, record-pass, record-turn, record-end}
 use Rattle.steps.proofs.write_record.Statement.{statement}
 use Rattle.steps.proofs.write_record.Tie as tie
 

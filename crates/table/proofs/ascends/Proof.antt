@@ -1,14 +1,13 @@
 -- What is left ascends after the last posting read exactly where the whole does.
-use Rattle.rules.specs.Postings.{chain, ascending}
-use Rattle.table.proofs.Walks.{none-left, chain-left, ascending-left, none-ascend, none-chained}
-use mathlib.Core.Bool.{true, false}
-use Prim.Native.Nat.{ℕ}
-use Rattle.rules.specs.Table.{postings}
+use Prim.Native.Nat.{ℕ, _-_, _≤_}
 use native.Mathlib.Omega.{arith}
-use lib.ListN.{length, drop}
+use mathlib.Core.Bool.{true, false}
 use mathlib.Core.Path.{_≡_, sym, ap, _∙_}
-use Prim.Native.Nat.{_+_, _-_, _*_, _≤_}
+use lib.ListN.{drop}
 use borrow.Author.Needs.{needs}
+use Rattle.rules.specs.Postings.{chain, ascending}
+use Rattle.rules.specs.Table.{postings}
+use Rattle.table.proofs.Walks.{none-left, chain-left, ascending-left, none-ascend, none-chained}
 use Rattle.table.proofs.ascends.Statement.{statement}
 use Rattle.table.proofs.ascends.Tie as tie
 

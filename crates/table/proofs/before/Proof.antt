@@ -1,7 +1,7 @@
 -- By what the comparison said.
-use Rattle.rules.specs.Postings.{isBefore}
 use mathlib.Core.Path.{sym, ap, _∙_}
 use borrow.Author.Needs.{needs}
+use Rattle.rules.specs.Postings.{isBefore}
 use Rattle.table.proofs.before.Statement.{statement}
 use Rattle.table.proofs.before.Tie as tie
 

@@ -1,6 +1,6 @@
 -- Three ranks, one within the other, as the definition has them.
-use Rattle.rules.specs.Postings.{compared}
 use borrow.Author.Needs.{needs}
+use Rattle.rules.specs.Postings.{compared}
 use Rattle.table.proofs.compare.Statement.{statement}
 use Rattle.table.proofs.compare.Tie as tie
 

@@ -1,15 +1,14 @@
 -- Those counted so far and those of what is left are those of the whole.
-use Rattle.rules.specs.Postings.{bucket, counted}
-use Rattle.table.proofs.Walks.{none-left, bucket-left, none-counted, one-most}
-use Rattle.rules.specs.declared.Posting.{Posting}
-use mathlib.Core.List.{List}
-use Prim.Native.Nat.{ℕ}
-use Rattle.rules.specs.Table.{postings}
+use Prim.Native.Nat.{ℕ, _+_, _-_, _≤_}
 use native.Mathlib.Omega.{arith}
+use mathlib.Core.List.{List}
+use mathlib.Core.Path.{_≡_, ap, _∙_}
 use lib.ListN.{length, drop}
-use mathlib.Core.Path.{_≡_, sym, ap, _∙_}
-use Prim.Native.Nat.{_+_, _-_, _*_, _≤_}
 use borrow.Author.Needs.{needs}
+use Rattle.rules.specs.Postings.{bucket, counted}
+use Rattle.rules.specs.Table.{postings}
+use Rattle.rules.specs.declared.Posting.{Posting}
+use Rattle.table.proofs.Walks.{none-left, bucket-left, none-counted, one-most}
 use Rattle.table.proofs.count_of.Statement.{statement}
 use Rattle.table.proofs.count_of.Tie as tie
 

@@ -1,7 +1,7 @@
 -- By what the comparison said.
-use Rattle.rules.specs.Postings.{isSame, same}
 use mathlib.Core.Path.{sym, ap, _∙_}
 use borrow.Author.Needs.{needs}
+use Rattle.rules.specs.Postings.{isSame, same}
 use Rattle.table.proofs.equal.Statement.{statement}
 use Rattle.table.proofs.equal.Tie as tie
 

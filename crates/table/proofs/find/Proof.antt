@@ -1,12 +1,11 @@
 -- All that the search has passed stands before the posting.
+use Prim.Native.Nat.{_-_, _≤_}
+use native.Mathlib.Omega.{arith}
+use mathlib.Core.Path.{_≡_, sym, _∙_}
+use borrow.Author.Needs.{needs}
+use Rattle.rules.specs.Table.{postings}
 use Rattle.table.proofs.Places.{Passed, passed-none, passed-more, passed-same, passed-after, passed-all}
 use Rattle.table.proofs.Walks.{none-left, next-left}
-use Rattle.rules.specs.Table.{postings}
-use native.Mathlib.Omega.{arith}
-use lib.ListN.{length, drop}
-use mathlib.Core.Path.{_≡_, sym, ap, _∙_}
-use Prim.Native.Nat.{_+_, _-_, _*_, _≤_}
-use borrow.Author.Needs.{needs}
 use Rattle.table.proofs.find.Statement.{statement}
 use Rattle.table.proofs.find.Tie as tie
 

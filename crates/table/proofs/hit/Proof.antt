@@ -1,6 +1,5 @@
 -- Each way out is one test of the definition.
 use borrow.Author.Tests.{eq-eqb, ne-eqb}
-use borrow.Author.Needs.{needs}
 use Rattle.table.proofs.hit.Statement.{statement}
 use Rattle.table.proofs.hit.Tie as tie
 

@@ -1,8 +1,8 @@
 -- The search says where; the numbers from there on go up, and the posting is stored.
-use Rattle.table.proofs.Keeping.{gap-low, inserted-kept, inserted-held}
 use native.Mathlib.Omega.{arith}
 use mathlib.Core.Path.{sym, _∙_}
 use borrow.Author.Needs.{needs}
+use Rattle.table.proofs.Keeping.{gap-low, inserted-kept, inserted-held}
 use Rattle.table.proofs.insert.Statement.{statement}
 use Rattle.table.proofs.insert.Tie as tie
 

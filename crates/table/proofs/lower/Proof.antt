@@ -1,10 +1,10 @@
 -- From the first number up: those before k have gone down.
-use Rattle.table.proofs.Moves.{lowering, lowering-none, lowering-turn, lowering-all}
+use Prim.Native.Nat.{_-_, _≤_}
 use native.Mathlib.Omega.{arith}
+use mathlib.Core.Path.{_≡_, _∙_}
 use lib.ListN.{length, length-set}
-use mathlib.Core.Path.{_≡_, sym, ap, _∙_}
-use Prim.Native.Nat.{_+_, _-_, _≤_}
 use borrow.Author.Needs.{needs}
+use Rattle.table.proofs.Moves.{lowering, lowering-none, lowering-turn, lowering-all}
 use Rattle.table.proofs.lower.Statement.{statement}
 use Rattle.table.proofs.lower.Tie as tie
 

@@ -1,11 +1,11 @@
 -- From the last number down: those from k on have gone up.
+use Prim.Native.Nat.{_-_, _≤_}
+use native.Mathlib.Omega.{arith}
+use mathlib.Core.Path.{_≡_}
+use lib.ListN.{length, length-set}
+use borrow.Author.Needs.{needs}
 use Rattle.table.specs.Shifts.{raised}
 use Rattle.table.proofs.Moves.{raised-none, raised-turn}
-use native.Mathlib.Omega.{arith}
-use lib.ListN.{length, length-set}
-use mathlib.Core.Path.{_≡_, sym, ap, _∙_}
-use Prim.Native.Nat.{_+_, _-_, _≤_}
-use borrow.Author.Needs.{needs}
 use Rattle.table.proofs.raise.Statement.{statement}
 use Rattle.table.proofs.raise.Tie as tie
 

@@ -1,7 +1,6 @@
 -- Each way out is one test of the definition.
-use Rattle.rules.specs.Postings.{ranked}
 use borrow.Author.Tests.{lt-ltb, le-ltb}
-use borrow.Author.Needs.{needs}
+use Rattle.rules.specs.Postings.{ranked}
 use Rattle.table.proofs.rank.Statement.{statement}
 use Rattle.table.proofs.rank.Tie as tie
 

@@ -1,7 +1,7 @@
 -- The three numbers from three times the place on are the posting there.
-use Rattle.table.proofs.Cells.{cell-at}
 use mathlib.Core.Path.{sym}
 use borrow.Author.Needs.{needs}
+use Rattle.table.proofs.Cells.{cell-at}
 use Rattle.table.proofs.read.Statement.{statement}
 use Rattle.table.proofs.read.Tie as tie
 

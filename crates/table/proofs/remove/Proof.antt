@@ -1,8 +1,8 @@
 -- The search says where; the numbers past it go down, and zeros are stored in the place set free.
-use Rattle.table.proofs.Keeping.{at-low, removed-kept, removed-held}
 use native.Mathlib.Omega.{arith}
 use mathlib.Core.Path.{sym, _∙_}
 use borrow.Author.Needs.{needs}
+use Rattle.table.proofs.Keeping.{at-low, removed-kept, removed-held}
 use Rattle.table.proofs.remove.Statement.{statement}
 use Rattle.table.proofs.remove.Tie as tie
 

@@ -1,7 +1,7 @@
 -- By where the search found it.
-use Rattle.table.proofs.Places.{at-present, gap-absent}
 use mathlib.Core.Path.{sym, _∙_}
 use borrow.Author.Needs.{needs}
+use Rattle.table.proofs.Places.{at-present, gap-absent}
 use Rattle.table.proofs.stands.Statement.{statement}
 use Rattle.table.proofs.stands.Tie as tie
 

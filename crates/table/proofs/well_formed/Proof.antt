@@ -1,10 +1,10 @@
 -- Each way out is the first test of the definition that fails, or all of them passed.
-use Rattle.table.proofs.Walks.{and-true}
-use Rattle.rules.specs.Table.{allOf, limitsHold, wellFormed}
-use borrow.Author.Tests.{eq-eqb, ne-eqb, le-leb, lt-leb}
 use native.Mathlib.Omega.{arith}
+use mathlib.Core.Bool.{and-true}
 use mathlib.Core.Path.{sym, _∙_}
 use borrow.Author.Needs.{needs}
+use borrow.Author.Tests.{eq-eqb, ne-eqb, le-leb, lt-leb}
+use Rattle.rules.specs.Table.{allOf, limitsHold, wellFormed}
 use Rattle.table.proofs.well_formed.Statement.{statement}
 use Rattle.table.proofs.well_formed.Tie as tie
 

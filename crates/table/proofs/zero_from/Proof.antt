@@ -1,16 +1,13 @@
 -- What is left is zeros exactly where the whole is.
-use Rattle.rules.specs.Postings.{every}
-use Rattle.table.proofs.Walks.{zeros-left, zeros-none}
-use lib.Dec.{eqb}
+use Prim.Native.Nat.{_-_, _≤_}
 use mathlib.Core.Bool.{true, false}
-use mathlib.Core.Path.{refl}
-use Rattle.rules.specs.Table.{postings}
-use native.Mathlib.Omega.{arith}
+use mathlib.Core.Path.{refl, _≡_, sym, _∙_}
+use lib.Dec.{eqb}
 use lib.ListN.{length, drop}
-use mathlib.Core.Path.{_≡_, sym, ap, _∙_}
-use Prim.Native.Nat.{_+_, _-_, _*_, _≤_}
-use borrow.Author.Tests.{eq-eqb, ne-eqb}
 use borrow.Author.Needs.{needs}
+use borrow.Author.Tests.{eq-eqb, ne-eqb}
+use Rattle.rules.specs.Postings.{every}
+use Rattle.laws.proofs.Left.{every-left, every-none}
 use Rattle.table.proofs.zero_from.Statement.{statement}
 use Rattle.table.proofs.zero_from.Tie as tie
 
@@ -30,7 +27,7 @@ shared-slice-read-if1 : tie.Need-shared-slice-read-if1 Inv-loop μ-loop
 shared-slice-read-if1 c = search needs
 
 returns : tie.Need-returns Inv-loop μ-loop
-returns c = sym (c .before .before .before .loop .inv .1 ∙ zeros-left _ _ (c .before .before .loop-test .taken) false (ne-eqb 0 _ (λ e. c .if1 .taken (sym e))))
+returns c = sym (c .before .before .before .loop .inv .1 ∙ every-left (eqb 0) 0 _ _ false (c .before .before .loop-test .taken) (ne-eqb 0 _ (λ e. c .if1 .taken (sym e))))
 
 add-i : tie.Need-add-i Inv-loop μ-loop
 add-i c = search needs
@@ -39,10 +36,10 @@ loop-less : tie.Need-loop-less Inv-loop μ-loop
 loop-less c = search needs
 
 loop-again : tie.Need-loop-again Inv-loop μ-loop
-loop-again c = (search needs, c .before .before .before .loop .inv .1 ∙ zeros-left _ _ (c .before .before .loop-test .taken) true (eq-eqb 0 _ (sym (c .if1 .left))))
+loop-again c = (search needs, c .before .before .before .loop .inv .1 ∙ every-left (eqb 0) 0 _ _ true (c .before .before .loop-test .taken) (eq-eqb 0 _ (sym (c .if1 .left))))
 
 returns-2 : tie.Need-returns-2 Inv-loop μ-loop
-returns-2 c = sym (c .before .loop .inv .1 ∙ zeros-none _ _ (c .loop-test .left))
+returns-2 c = sym (c .before .loop .inv .1 ∙ every-none (eqb 0) _ _ (c .loop-test .left))
 
 pub zero-from-spec : {M : Type 1} → statement M
 zero-from-spec =

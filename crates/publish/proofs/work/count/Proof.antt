@@ -1,10 +1,10 @@
 -- A well-formed table has few postings, so their number fits.
-use Rattle.publish.proofs.Showing.{counted-most}
-use Rattle.table.proofs.Keeping.{well-formed-held}
-use Rattle.laws.proofs.Flat.{well-formed-parts}
-use Rattle.rules.specs.Table.{postings}
 use native.Mathlib.Omega.{arith}
 use borrow.Author.Needs.{needs}
+use Rattle.rules.specs.Table.{postings}
+use Rattle.laws.proofs.Flat.{well-formed-parts}
+use Rattle.table.proofs.Keeping.{well-formed-held}
+use Rattle.publish.proofs.Showing.{counted-most}
 use Rattle.publish.proofs.work.count.Statement.{statement}
 use Rattle.publish.proofs.work.count.Tie as tie
 

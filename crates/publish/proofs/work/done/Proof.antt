@@ -1,9 +1,9 @@
 -- By what the flag becomes.
-use Rattle.publish.specs.declared.Done.{Done}
-use Rattle.rules.specs.Calls.{headWith}
-use mathlib.Core.Path.{ap}
 use Prim.Native.Nat.{ℕ}
+use mathlib.Core.Path.{ap}
 use borrow.Author.Needs.{needs}
+use Rattle.rules.specs.Calls.{headWith}
+use Rattle.publish.specs.declared.Done.{Done}
 use Rattle.publish.proofs.work.done.Statement.{statement}
 use Rattle.publish.proofs.work.done.Tie as tie
 

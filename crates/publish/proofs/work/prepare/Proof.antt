@@ -1,11 +1,11 @@
 -- What prepare reached, shown, with the record where all are in.
-use Rattle.publish.proofs.Showing.{used-fits, prepared-in, prepared-not}
+use mathlib.Core.Path.{sym, ap, _∙_}
+use borrow.Author.Needs.{needs}
+use Rattle.rules.specs.Orders.{changes, destinations}
+use Rattle.table.proofs.Keeping.{well-formed-held}
 use Rattle.publish.specs.Promises.{outcomeOf}
 use Rattle.publish.specs.declared.Done.{Done}
-use Rattle.table.proofs.Keeping.{well-formed-held}
-use Rattle.rules.specs.Orders.{changes, destinations}
-use mathlib.Core.Path.{_≡_, sym, ap, _∙_}
-use borrow.Author.Needs.{needs}
+use Rattle.publish.proofs.Showing.{used-fits, prepared-in, prepared-not}
 use Rattle.publish.proofs.work.prepare.Statement.{statement}
 use Rattle.publish.proofs.work.prepare.Tie as tie
 

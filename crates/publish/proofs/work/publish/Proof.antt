@@ -1,11 +1,11 @@
 -- What prepare reached and, where all are in, what source removal reached from there, shown.
-use Rattle.publish.proofs.Showing.{used-fits, published-in, published-not}
+use mathlib.Core.Path.{sym, ap, _∙_}
+use borrow.Author.Needs.{needs}
+use Rattle.rules.specs.Orders.{changes, destinations, sources}
+use Rattle.table.proofs.Keeping.{well-formed-held, holds-held}
 use Rattle.publish.specs.Promises.{outcomeOf}
 use Rattle.publish.specs.declared.Done.{Done}
-use Rattle.table.proofs.Keeping.{well-formed-held, holds-held}
-use Rattle.rules.specs.Orders.{changes, destinations, sources}
-use mathlib.Core.Path.{_≡_, sym, ap, _∙_}
-use borrow.Author.Needs.{needs}
+use Rattle.publish.proofs.Showing.{used-fits, published-in, published-not}
 use Rattle.publish.proofs.work.publish.Statement.{statement}
 use Rattle.publish.proofs.work.publish.Tie as tie
 

@@ -1,11 +1,11 @@
 -- What the removals reached, shown.
-use Rattle.publish.proofs.Showing.{used-fits, reached-shown}
+use mathlib.Core.List.{[]}
+use mathlib.Core.Path.{ap, _∙_}
+use borrow.Author.Needs.{needs}
+use Rattle.table.proofs.Keeping.{well-formed-held}
 use Rattle.publish.specs.Promises.{outcomeOf}
 use Rattle.publish.specs.declared.Done.{Done}
-use Rattle.table.proofs.Keeping.{well-formed-held}
-use mathlib.Core.List.{[]}
-use mathlib.Core.Path.{_≡_, sym, ap, _∙_}
-use borrow.Author.Needs.{needs}
+use Rattle.publish.proofs.Showing.{used-fits, reached-shown}
 use Rattle.publish.proofs.work.remove.Statement.{statement}
 use Rattle.publish.proofs.work.remove.Tie as tie
 

@@ -1,12 +1,12 @@
 -- What the undo reached, settled and shown.
-use Rattle.publish.proofs.Showing.{doneOf, used-fits, undone-shown}
-use Rattle.publish.specs.Promises.{outcomeOf}
-use Rattle.publish.specs.declared.Done.{Done}
-use Rattle.table.proofs.Keeping.{well-formed-held}
+use mathlib.Core.Path.{ap, _∙_}
+use borrow.Author.Needs.{needs}
 use Rattle.rules.specs.Calls.{Outcome}
 use Rattle.rules.specs.declared.Answer.{Answer}
-use mathlib.Core.Path.{_≡_, sym, ap, _∙_}
-use borrow.Author.Needs.{needs}
+use Rattle.table.proofs.Keeping.{well-formed-held}
+use Rattle.publish.specs.Promises.{outcomeOf}
+use Rattle.publish.specs.declared.Done.{Done}
+use Rattle.publish.proofs.Showing.{doneOf, used-fits, undone-shown}
 use Rattle.publish.proofs.work.rollback.Statement.{statement}
 use Rattle.publish.proofs.work.rollback.Tie as tie
 
