@@ -47,7 +47,8 @@ change-of (a ∷ b ∷ c ∷ d ∷ e ∷ f ∷ rest) (suc i) h =
 -- the change at a place, number by number
 pub change-read :
     (l : List ℕ) (i : ℕ) → i < length (changes l) →
-    getD (changes l) i noChange ≡ record { binding = getD l (i * 6) 0; row = getD l (i * 6 + 1) 0; before = keyOf (getD l (i * 6 + 2) 0) (getD l (i * 6 + 3) 0); after = keyOf (getD l (i * 6 + 4) 0) (getD l (i * 6 + 5) 0) }
+    getD (changes l) i noChange ≡ record
+    { binding = getD l (i * 6) 0; row = getD l (i * 6 + 1) 0; before = keyOf (getD l (i * 6 + 2) 0) (getD l (i * 6 + 3) 0); after = keyOf (getD l (i * 6 + 4) 0) (getD l (i * 6 + 5) 0) }
 unfolding changeOf
 change-read l i h = let n : i * 6 + 0 ≡ i * 6 = omega arith in change-of l i h ∙ simp (getD-drop, n)
 
@@ -59,13 +60,15 @@ drop-all cs i h = drop-of-length-le cs h
 
 pub destinations-left :
     (cs : List Change) (i : ℕ) → i < length cs →
-    destinationsFrom i (drop i cs) ≡ named i (getD cs i noChange) (destinationOf (getD cs i noChange)) (destinationsFrom (i + 1) (drop (i + 1) cs))
+    destinationsFrom i (drop i cs) ≡ named i (getD cs i noChange) (destinationOf (getD cs i noChange))
+    (destinationsFrom (i + 1) (drop (i + 1) cs))
 unfolding destinationsFrom
 destinations-left cs i h = rw (change-left cs i h)
 
 pub sources-left :
     (cs : List Change) (i : ℕ) → i < length cs →
-    sourcesFrom i (drop i cs) ≡ named i (getD cs i noChange) (sourceOf (getD cs i noChange)) (sourcesFrom (i + 1) (drop (i + 1) cs))
+    sourcesFrom i (drop i cs) ≡ named i (getD cs i noChange) (sourceOf (getD cs i noChange))
+    (sourcesFrom (i + 1) (drop (i + 1) cs))
 unfolding sourcesFrom
 sources-left cs i h = rw (change-left cs i h)
 
@@ -89,14 +92,16 @@ destinations-last i (x ∷ cs) c =
   where
     go :
         (key : Key) →
-        named i x key (destinationsFrom (i + 1) cs ++ named (i + suc (length cs)) c (destinationOf c) []) ≡ named i x key (destinationsFrom (i + 1) cs) ++ named (i + suc (length cs)) c (destinationOf c) []
+        named i x key (destinationsFrom (i + 1) cs ++ named (i + suc (length cs)) c (destinationOf c) []) ≡ named i x key
+        (destinationsFrom (i + 1) cs) ++ named (i + suc (length cs)) c (destinationOf c) []
     go Key.Missing = refl
     go (Key.Named key) = refl
 
 -- one more change passed
 pub destinations-behind :
     (cs : List Change) (i : ℕ) → i < length cs →
-    destinations (take (i + 1) cs) ≡ destinations (take i cs) ++ named i (getD cs i noChange) (destinationOf (getD cs i noChange)) []
+    destinations (take (i + 1) cs) ≡ destinations (take i cs) ++ named i (getD cs i noChange)
+    (destinationOf (getD cs i noChange)) []
 destinations-behind cs i h =
     let k : i ≤ length cs = omega arith in
     let n : 0 + length (take i cs) ≡ i = omega (arith, length-take-le i cs k) in

@@ -40,12 +40,14 @@ any-index test answer i j (x ∷ xs) = ap (orElse (must (test x) (answer x))) (a
 
 -- the first posting that is marked, answered with the number of its change
 abbrev pub firstOf : (Posting → Bool) → (ℕ → Answer) → List Numbered → Verdict
-firstOf marked answer ds = firstFailing (λ (d : Numbered). not (marked (d .posting))) (λ i (d : Numbered). answer (d .number)) 0 ds
+firstOf marked answer ds =
+    firstFailing (λ (d : Numbered). not (marked (d .posting))) (λ i (d : Numbered). answer (d .number)) 0 ds
 
 module _ (marked : Posting → Bool) (answer : ℕ → Answer) where
   first-named :
       (i : ℕ) (c : Change) (key : Key) (others : List Numbered) →
-      firstOf marked answer (named i c key others) ≡ orElse (must (not (underKey c key marked)) (answer i)) (firstOf marked answer others)
+      firstOf marked answer (named i c key others) ≡ orElse (must (not (underKey c key marked)) (answer i))
+      (firstOf marked answer others)
   unfolding firstFailing
   first-named i c Key.Missing others = refl
   first-named i c (Key.Named key) others =
@@ -55,14 +57,16 @@ module _ (marked : Posting → Bool) (answer : ℕ → Answer) where
   module _ (cs : List Change) (i : ℕ) where
     pub first-destination :
         (c : Change) (b : Bool) → i < length cs → c ≡ getD cs i noChange → underKey c (destinationOf c) marked ≡ b →
-        firstOf marked answer (destinationsFrom i (drop i cs)) ≡ orElse (must (not b) (answer i)) (firstOf marked answer (destinationsFrom (i + 1) (drop (i + 1) cs)))
+        firstOf marked answer (destinationsFrom i (drop i cs)) ≡ orElse (must (not b) (answer i))
+        (firstOf marked answer (destinationsFrom (i + 1) (drop (i + 1) cs)))
     first-destination c b h r e =
         rw (destinations-left cs i h, ← r)
         (first-named i c (destinationOf c) (destinationsFrom (i + 1) (drop (i + 1) cs)) ∙ rw e)
 
     pub first-source :
         (c : Change) (b : Bool) → i < length cs → c ≡ getD cs i noChange → underKey c (sourceOf c) marked ≡ b →
-        firstOf marked answer (sourcesFrom i (drop i cs)) ≡ orElse (must (not b) (answer i)) (firstOf marked answer (sourcesFrom (i + 1) (drop (i + 1) cs)))
+        firstOf marked answer (sourcesFrom i (drop i cs)) ≡ orElse (must (not b) (answer i))
+        (firstOf marked answer (sourcesFrom (i + 1) (drop (i + 1) cs)))
     first-source c b h r e =
         rw (sources-left cs i h, ← r)
         (first-named i c (sourceOf c) (sourcesFrom (i + 1) (drop (i + 1) cs)) ∙ rw e)
@@ -87,11 +91,14 @@ module _ (p : Posting) where
 
   pub present-left :
       (cs : List Change) (i : ℕ) (b : Bool) → i < length cs → goesTo (getD cs i noChange) p ≡ b →
-      present p (postingsOf (destinationsFrom i (drop i cs))) ≡ (b || present p (postingsOf (destinationsFrom (i + 1) (drop (i + 1) cs))))
+      present p (postingsOf (destinationsFrom i (drop i cs))) ≡
+      (b || present p (postingsOf (destinationsFrom (i + 1) (drop (i + 1) cs))))
   present-left cs i b h e =
       rw (destinations-left cs i h)
-      (present-named i (getD cs i noChange) (destinationOf (getD cs i noChange)) (destinationsFrom (i + 1) (drop (i + 1) cs)) ∙ rw e)
+      (present-named i (getD cs i noChange) (destinationOf (getD cs i noChange)) (destinationsFrom (i + 1) (drop (i + 1) cs))
+      ∙ rw e)
 
-  pub present-none : (cs : List Change) (i : ℕ) → length cs ≤ i → present p (postingsOf (destinationsFrom i (drop i cs))) ≡ false
+  pub present-none :
+      (cs : List Change) (i : ℕ) → length cs ≤ i → present p (postingsOf (destinationsFrom i (drop i cs))) ≡ false
   unfolding present
   present-none cs i h = rw (destinations-none cs i h)

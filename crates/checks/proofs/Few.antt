@@ -39,7 +39,9 @@ unfolding without
 few-without bound [] f = none
 few-without bound (n ∷ ns) (more h a f) = go (eqb bound n) refl (few-without bound ns f)
   where
-    go : (b : Bool) → eqb bound n ≡ b → Few bound (without bound ns) → Few bound (cond b (without bound ns) (n ∷ without bound ns))
+    go :
+        (b : Bool) → eqb bound n ≡ b → Few bound (without bound ns) →
+        Few bound (cond b (without bound ns) (n ∷ without bound ns))
     go true e ih = ih
     go false e ih =
         let d = eqb-false bound n e in

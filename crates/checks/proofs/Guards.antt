@@ -27,7 +27,8 @@ guards-front (a ∷ b ∷ rest) h = refl
 module _ (binding key : ℕ) (l : List ℕ) (i : ℕ) where
   held-left :
       i < length l / 2 →
-      held binding key (guards (drop (i * 2) l)) ≡ ((eqb binding (getD l (i * 2) 0) && eqb key (getD l (i * 2 + 1) 0)) || held binding key (guards (drop ((i + 1) * 2) l)))
+      held binding key (guards (drop (i * 2) l)) ≡
+      ((eqb binding (getD l (i * 2) 0) && eqb key (getD l (i * 2 + 1) 0)) || held binding key (guards (drop ((i + 1) * 2) l)))
   unfolding held
   held-left h =
       let n : 2 ≤ length (drop (i * 2) l) = rw (length-drop (i * 2) l) (omega arith) in

@@ -74,7 +74,8 @@ module _ (cs : List Change) (j : ℕ) (h : j < length cs) where
       seek cs j i ≡ orElse (must (not b) (Answer.Twice i j)) (seek cs j (i + 1))
   unfolding seek sought
   seek-left i b k e =
-      first-destination (λ e. underKey (at cs j) (destinationOf (at cs j)) (same e)) (λ n. Answer.Twice n j) (take j cs) i (at cs i) b
+      first-destination (λ e. underKey (at cs j) (destinationOf (at cs j)) (same e)) (λ n. Answer.Twice n j) (take j cs) i
+      (at cs i) b
       (rw reached k)
       (sym (getD-take j cs i noChange k))
       (either-way (at cs i) (destinationOf (at cs i)) (at cs j) (destinationOf (at cs j)) ∙ e)
@@ -82,13 +83,15 @@ module _ (cs : List Change) (j : ℕ) (h : j < length cs) where
   seek-none : (i : ℕ) → j ≤ i → seek cs j i ≡ Verdict.Passes
   unfolding seek sought
   seek-none i k =
-      no-destination (λ e. underKey (at cs j) (destinationOf (at cs j)) (same e)) (λ n. Answer.Twice n j) (take j cs) i (rw reached k)
+      no-destination (λ e. underKey (at cs j) (destinationOf (at cs j)) (same e)) (λ n. Answer.Twice n j) (take j cs) i
+      (rw reached k)
 
   pairs-left : pairsFrom cs j ≡ orElse (seek cs j 0) (pairsFrom cs (j + 1))
   unfolding pairsFrom seek
   pairs-left =
       rw (destinations-left cs j h, destinations-behind cs j h)
-      (twice-named j (at cs j) (destinationOf (at cs j)) (destinations (take j cs)) (destinationsFrom (j + 1) (drop (j + 1) cs)))
+      (twice-named j (at cs j) (destinationOf (at cs j)) (destinations (take j cs))
+      (destinationsFrom (j + 1) (drop (j + 1) cs)))
 
   pub seek-further :
       (i : ℕ) → i < j → oneDestination (at cs i) (at cs j) ≡ false → seek cs j i ≡ seek cs j (i + 1)

@@ -66,7 +66,13 @@ module _ (cs gs : List ℕ) where
       length (changes cs) ≤ mostChanges → length gs % 2 ≡ 0 → length gs / 2 ≤ mostGuards → properLists cs gs ≡ properChanges cs
   unfolding properLists
   lists-within m e n =
-      rw (le-leb (length (changes cs)) mostChanges m, eq-eqb (length gs % 2) 0 e, guards-length gs, le-leb (length gs / 2) mostGuards n)
+      rw (
+        le-leb (length (changes cs)) mostChanges m,
+        eq-eqb (length gs % 2) 0 e,
+        guards-length gs,
+        le-leb (length gs / 2)
+            mostGuards n,
+      )
       (simp and-true)
 
 pub strip-over : (strip : List ℕ) → mostBytes < length strip → properStrip strip ≡ false

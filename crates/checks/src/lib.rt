@@ -146,7 +146,8 @@ fn is_guarded(bindings: u32, pairs: &[u32], change: Change) -> bool
 // 6 GUARD: the first change that is not guarded.
 pub fn check_guards(bindings: u32, list: &[u32], pairs: &[u32]) -> Verdict
     requires { ⌜ length (changes (now list)) ≤ mostChanges ⌝ }
-    ensures { λ r. ⌜ r ≡ firstFailing (guarded bindings (guards (now (pairs .entry)))) (λ i change. Answer.Guard i) 0 (changes (now (list .entry))) ⌝ }
+    ensures { λ r. ⌜ r ≡ firstFailing (guarded bindings (guards (now (pairs .entry)))) (λ i change. Answer.Guard i) 0
+        (changes (now (list .entry))) ⌝ }
 {
     let n = count_of(list);
     let mut i = 0;
@@ -232,7 +233,8 @@ fn goes_to(list: &[u32], i: usize, p: Posting) -> bool
 // Two changes have one destination.
 fn one_destination(list: &[u32], i: usize, j: usize) -> bool
     requires { ⌜ (i < length (changes (now list))) × (j < length (changes (now list))) ⌝ }
-    ensures { λ r. ⌜ r ≡ oneDestination (getD (changes (now (list .entry))) i noChange) (getD (changes (now (list .entry))) j noChange) ⌝ }
+    ensures { λ r. ⌜ r ≡ oneDestination (getD (changes (now (list .entry))) i noChange)
+        (getD (changes (now (list .entry))) j noChange) ⌝ }
 {
     let change = change_at(list, j);
     let Key::Named(key) = destination_of(change) else {
@@ -281,7 +283,9 @@ fn is_present(table: &[u32], used: usize, change: Change) -> bool
 // 8 PRESENT: the first destination that stands in the table.
 pub fn check_present(table: &[u32], used: usize, list: &[u32]) -> Verdict
     requires { ⌜ Held (now table) used × (length (changes (now list)) ≤ mostChanges) ⌝ }
-    ensures { λ r. ⌜ r ≡ firstFailing (λ (d : Numbered). not (present (d .posting) (postings used (now (table .entry))))) (λ i d. Answer.Present (d .number)) 0 (destinations (changes (now (list .entry)))) ⌝ }
+    ensures { λ r. ⌜ r ≡ firstFailing
+        (λ (d : Numbered). not (present (d .posting) (postings used (now (table .entry)))))
+        (λ i d. Answer.Present (d .number)) 0 (destinations (changes (now (list .entry)))) ⌝ }
 {
     let n = count_of(list);
     let mut i = 0;
@@ -322,7 +326,9 @@ fn overlaps(list: &[u32], change: Change) -> bool
 // 9 OVERLAP: the first source that is a destination of the list, its own change's or another's.
 pub fn check_overlap(list: &[u32]) -> Verdict
     requires { ⌜ length (changes (now list)) ≤ mostChanges ⌝ }
-    ensures { λ r. ⌜ r ≡ firstFailing (λ (s : Numbered). not (present (s .posting) (postingsOf (destinations (changes (now (list .entry))))))) (λ i s. Answer.Overlap (s .number)) 0 (sources (changes (now (list .entry)))) ⌝ }
+    ensures { λ r. ⌜ r ≡ firstFailing
+        (λ (s : Numbered). not (present (s .posting) (postingsOf (destinations (changes (now (list .entry)))))))
+        (λ i s. Answer.Overlap (s .number)) 0 (sources (changes (now (list .entry)))) ⌝ }
 {
     let n = count_of(list);
     let mut i = 0;

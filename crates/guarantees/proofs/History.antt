@@ -54,7 +54,10 @@ run-accepted : (x : Index) (ms : List Made) → Run x ms → accepted x (calls m
 unfolding accepted taken
 run-accepted x [] none = refl
 run-accepted x (m ∷ ms) (next k r) =
-    ap (λ (o : Outcome). cond (isAccepted (o .answer)) (m .call ∷ accepted (indexOf o) (calls ms)) (accepted (indexOf o) (calls ms))) (kept-published x m k)
+    ap
+    (λ (o : Outcome). cond (isAccepted (o .answer)) (m .call ∷ accepted (indexOf o) (calls ms))
+    (accepted (indexOf o) (calls ms)))
+    (kept-published x m k)
     ∙ (ap (λ (cs : List Call). cond (isAccepted (m .result .answer)) (m .call ∷ cs) cs) (run-accepted (left m) ms r)
     ∙ sym (map-cond (λ (n : Made). n .call) (isAccepted (m .result .answer)) m (taken ms)))
 
@@ -62,7 +65,10 @@ run-accepted-outcomes : (x : Index) (ms : List Made) → Run x ms → acceptedOu
 unfolding acceptedOutcomes taken
 run-accepted-outcomes x [] none = refl
 run-accepted-outcomes x (m ∷ ms) (next k r) =
-    ap (λ (o : Outcome). cond (isAccepted (o .answer)) (o ∷ acceptedOutcomes (indexOf o) (calls ms)) (acceptedOutcomes (indexOf o) (calls ms))) (kept-published x m k)
+    ap
+    (λ (o : Outcome). cond (isAccepted (o .answer)) (o ∷ acceptedOutcomes (indexOf o) (calls ms))
+    (acceptedOutcomes (indexOf o) (calls ms)))
+    (kept-published x m k)
     ∙ (ap (λ (os : List Outcome). cond (isAccepted (m .result .answer)) (outcome m ∷ os) os) (run-accepted-outcomes (left m) ms r)
     ∙ sym (map-cond outcome (isAccepted (m .result .answer)) m (taken ms)))
 
@@ -100,9 +106,12 @@ module _ (x : Index) (start : List Posting) (h : Holds x start) (ms : List Made)
         publishes = λ m k. sym (kept-published (end x ms) m k) ∙ rw (← e) (w .publishes (m .call));
         counts =
             λ binding key n k.
-            let none : countOf (end x ms .head) (end x ms .table) binding key ≡ Answer.Poisoned = rw (← e) (w .counts binding key) in
+            let none : countOf (end x ms .head) (end x ms .table) binding key ≡ Answer.Poisoned =
+            rw (← e) (w .counts binding key) in
             told-injective n (countOf (end x ms .head) (end x ms .table) binding key) k ∙ none;
-        fixed = λ more q. sym (run-end (end x ms) more q) ∙ rw (← e) (sym (after-append x (calls ms) (calls more)) ∙ w .fixed (calls more));
+        fixed =
+            λ more q. sym (run-end (end x ms) more q) ∙ rw (← e)
+            (sym (after-append x (calls ms) (calls more)) ∙ w .fixed (calls more));
       }
 
 -- the first calls of a run are a run

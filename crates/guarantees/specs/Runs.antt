@@ -70,7 +70,9 @@ pub record Right (x : Index) (start : List Posting) (ms : List Made) : Type 0 wh
       (binding key : ℕ) (a : Answer) → Counts (end x ms .head) (end x ms .table) binding key a →
       a ≡ ownCount x (said (calls (taken ms)) start) binding key
   -- and its number is that of the rows that the accepted calls say
-  pub rows : (binding key : ℕ) → CountSaid start (calls (taken ms)) binding key (counted binding key (said (calls (taken ms)) start))
+  pub rows :
+      (binding key : ℕ) →
+      CountSaid start (calls (taken ms)) binding key (counted binding key (said (calls (taken ms)) start))
   -- the accepted calls made again with empty strips, on a table of equal size and binding count that holds the same start, leave
   -- the same table and head, and the same answers and records on the way, number for number
   pub replay :

@@ -28,7 +28,9 @@ pub record OneOutcome (r r′ : Done) (t t′ l l′ : List ℕ) : Type 0 where
   pub table : t ≡ t′
   pub recordList : l ≡ l′
 
-alike : (r r′ : Done) (t t′ l l′ : List ℕ) (o : Outcome) → seen r t l ≡ seenOf o → seen r′ t′ l′ ≡ seenOf o → OneOutcome r r′ t t′ l l′
+alike :
+    (r r′ : Done) (t t′ l l′ : List ℕ) (o : Outcome) → seen r t l ≡ seenOf o → seen r′ t′ l′ ≡ seenOf o →
+    OneOutcome r r′ t t′ l l′
 alike r r′ t t′ l l′ o e f =
     let g : outcomeOf r t l ≡ outcomeOf r′ t′ l′ = seen-outcome r t l o e ∙ sym (seen-outcome r′ t′ l′ o f) in
     record {

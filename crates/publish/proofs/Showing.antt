@@ -56,9 +56,11 @@ module _ (head : Head) (t₀ t list : List ℕ) (len : length t ≡ length t₀)
   -- rollback settles what its undo says
   pub undone-shown :
       (u : Undone) (b : Back) (most : ℕ) → Undoes u b t most →
-      outcomeOf (doneOf head (record { answer = settled (b .verdict) (Answer.Accepted 0); used = b .used; read = b .read })) t list ≡ shown head t₀ list (rolledBack u)
+      outcomeOf (doneOf head (record { answer = settled (b .verdict) (Answer.Accepted 0); used = b .used; read = b .read }))
+      t list ≡ shown head t₀ list (rolledBack u)
   undone-shown u b most h =
-      reached-shown (rolledBack u) (record { answer = settled (b .verdict) (Answer.Accepted 0); used = b .used; read = b .read }) most
+      reached-shown (rolledBack u)
+      (record { answer = settled (b .verdict) (Answer.Accepted 0); used = b .used; read = b .read }) most
       (record {
         answer = ap (λ (v : Verdict). settled v (Answer.Accepted 0)) (h .verdict);
         holds = h .holds;
@@ -119,4 +121,5 @@ unfolding bucket
 counted-most binding key [] = omega arith
 counted-most binding key (q ∷ qs) =
     let ih = counted-most binding key qs in
-    by-cases (λ (l : List ℕ). length l ≤ suc (length qs)) (eqb binding (q .binding) && eqb key (q .key)) (λ e. omega arith) (λ e. omega arith)
+    by-cases (λ (l : List ℕ). length l ≤ suc (length qs)) (eqb binding (q .binding) && eqb key (q .key)) (λ e. omega arith)
+    (λ e. omega arith)

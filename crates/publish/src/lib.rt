@@ -26,7 +26,9 @@ pub fn prepare_index_destinations(
     strip: &[u8],
     record: &mut [u32],
 ) -> Done
-    ensures { λ r. ⌜ Prepares head (now (table .entry)) (lending (now (changes .entry)) (now (guards .entry)) (now (strip .entry)) (now («record» .entry))) r (now (table .exit)) (now («record» .exit)) ⌝ }
+    ensures { λ r. ⌜ Prepares head (now (table .entry))
+        (lending (now (changes .entry)) (now (guards .entry)) (now (strip .entry)) (now («record» .entry))) r
+        (now (table .exit)) (now («record» .exit)) ⌝ }
 {
     match refusals::of_prepare(head, table, changes, guards, strip, record) {
         Verdict::Refused(answer) => Done { head, answer },
@@ -43,7 +45,9 @@ pub fn rollback_index_destinations(
     strip: &[u8],
     record: &[u32],
 ) -> Done
-    ensures { λ r. ⌜ RollsBack head (now (table .entry)) (lending (now (changes .entry)) (now (guards .entry)) (now (strip .entry)) (now («record» .entry))) r (now (table .exit)) (now («record» .entry)) ⌝ }
+    ensures { λ r. ⌜ RollsBack head (now (table .entry))
+        (lending (now (changes .entry)) (now (guards .entry)) (now (strip .entry)) (now («record» .entry))) r
+        (now (table .exit)) (now («record» .entry)) ⌝ }
 {
     match refusals::of_rollback(head, table, changes, guards, strip, record) {
         Verdict::Refused(answer) => Done { head, answer },
@@ -59,7 +63,8 @@ pub fn remove_index_sources(
     guards: &[u32],
     strip: &[u8],
 ) -> Done
-    ensures { λ r. ⌜ RemovesSources head (now (table .entry)) (lending (now (changes .entry)) (now (guards .entry)) (now (strip .entry)) []) r (now (table .exit)) [] ⌝ }
+    ensures { λ r. ⌜ RemovesSources head (now (table .entry))
+        (lending (now (changes .entry)) (now (guards .entry)) (now (strip .entry)) []) r (now (table .exit)) [] ⌝ }
 {
     match refusals::of_removal(head, table, changes, guards, strip) {
         Verdict::Refused(answer) => Done { head, answer },
@@ -76,7 +81,9 @@ pub fn publish(
     strip: &[u8],
     record: &mut [u32],
 ) -> Done
-    ensures { λ r. ⌜ Publishes head (now (table .entry)) (lending (now (changes .entry)) (now (guards .entry)) (now (strip .entry)) (now («record» .entry))) r (now (table .exit)) (now («record» .exit)) ⌝ }
+    ensures { λ r. ⌜ Publishes head (now (table .entry))
+        (lending (now (changes .entry)) (now (guards .entry)) (now (strip .entry)) (now («record» .entry))) r
+        (now (table .exit)) (now («record» .exit)) ⌝ }
 {
     match refusals::of_publish(head, table, changes, guards, strip, record) {
         Verdict::Refused(answer) => Done { head, answer },

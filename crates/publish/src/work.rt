@@ -28,7 +28,8 @@ ghost use Rattle.publish.specs.Promises.{outcomeOf};
 // The answer that was reached, and the head beside the table as it now is.
 fn done(head: Head, reached: Reached) -> Done
     requires { ⌜ reached .used < 2 ^ 32 ⌝ }
-    ensures { λ r. ⌜ r ≡ record { head = headWith head (reached .used) (cond (poisons (reached .answer)) 1 (head .poisoned)); answer = reached .answer } ⌝ }
+    ensures { λ r. ⌜ r ≡ record
+        { head = headWith head (reached .used) (cond (poisons (reached .answer)) 1 (head .poisoned)); answer = reached .answer } ⌝ }
 {
     let answer = reached.answer;
     Done {
@@ -51,9 +52,9 @@ pub fn prepare(
 ) -> Done
     requires { ⌜ wellFormed head (now table) ≡ true ⌝ }
     requires { ⌜ (length (changes (now list)) ≤ mostChanges) × (length (changes (now list)) ≤ length (now «record»)) ⌝ }
-    ensures { λ r. ⌜ outcomeOf r (now (table .exit)) (now («record» .exit))
-        ≡ shown head (now (table .entry))
-        (recordAfter (prepared head (now (table .entry)) (lending (now (list .entry)) [] (now (strip .entry)) [])) (destinations (changes (now (list .entry)))) (now («record» .entry)))
+    ensures { λ r. ⌜ outcomeOf r (now (table .exit)) (now («record» .exit)) ≡ shown head (now (table .entry))
+        (recordAfter (prepared head (now (table .entry)) (lending (now (list .entry)) [] (now (strip .entry)) []))
+        (destinations (changes (now (list .entry)))) (now («record» .entry)))
         (prepared head (now (table .entry)) (lending (now (list .entry)) [] (now (strip .entry)) [])) ⌝ }
 {
     let reached = steps::prepare(table, list, strip, head.used as usize);
@@ -75,10 +76,11 @@ pub fn publish(
 ) -> Done
     requires { ⌜ wellFormed head (now table) ≡ true ⌝ }
     requires { ⌜ (length (changes (now list)) ≤ mostChanges) × (length (changes (now list)) ≤ length (now «record»)) ⌝ }
-    ensures { λ r. ⌜ outcomeOf r (now (table .exit)) (now («record» .exit))
-        ≡ shown head (now (table .entry))
-        (recordAfter (prepared head (now (table .entry)) (lending (now (list .entry)) [] (now (strip .entry)) [])) (destinations (changes (now (list .entry)))) (now («record» .entry)))
-        (thenSources (now (strip .entry)) (sources (changes (now (list .entry)))) (prepared head (now (table .entry)) (lending (now (list .entry)) [] (now (strip .entry)) []))) ⌝ }
+    ensures { λ r. ⌜ outcomeOf r (now (table .exit)) (now («record» .exit)) ≡ shown head (now (table .entry))
+        (recordAfter (prepared head (now (table .entry)) (lending (now (list .entry)) [] (now (strip .entry)) []))
+        (destinations (changes (now (list .entry)))) (now («record» .entry)))
+        (thenSources (now (strip .entry)) (sources (changes (now (list .entry))))
+        (prepared head (now (table .entry)) (lending (now (list .entry)) [] (now (strip .entry)) []))) ⌝ }
 {
     let reached = steps::prepare(table, list, strip, head.used as usize);
     let answer = reached.answer;
@@ -95,9 +97,11 @@ pub fn rollback(head: Head, table: &mut [u32], list: &[u32], strip: &[u8], recor
     requires { ⌜ wellFormed head (now table) ≡ true ⌝ }
     requires { ⌜ length (changes (now list)) ≤ mostChanges ⌝ }
     requires { ⌜ every (λ n. ltb n (length (changes (now list)))) (now «record») ≡ true ⌝ }
-    ensures { λ r. ⌜ outcomeOf r (now (table .exit)) (now («record» .entry))
-        ≡ shown head (now (table .entry)) (now («record» .entry))
-        (rolledBack (undoing (now (strip .entry)) (reverse (recorded (changes (now (list .entry))) (now («record» .entry)))) Verdict.Passes 0 (postings (head .used) (now (table .entry))))) ⌝ }
+    ensures { λ r. ⌜ outcomeOf r (now (table .exit)) (now («record» .entry)) ≡ shown head (now (table .entry))
+        (now («record» .entry))
+        (rolledBack
+        (undoing (now (strip .entry)) (reverse (recorded (changes (now (list .entry))) (now («record» .entry))))
+        Verdict.Passes 0 (postings (head .used) (now (table .entry))))) ⌝ }
 {
     let back = steps::rollback(table, list, strip, record, head.used as usize);
     let verdict = back.verdict;
@@ -115,9 +119,9 @@ pub fn rollback(head: Head, table: &mut [u32], list: &[u32], strip: &[u8], recor
 pub fn remove(head: Head, table: &mut [u32], list: &[u32], strip: &[u8]) -> Done
     requires { ⌜ wellFormed head (now table) ≡ true ⌝ }
     requires { ⌜ length (changes (now list)) ≤ mostChanges ⌝ }
-    ensures { λ r. ⌜ outcomeOf r (now (table .exit)) []
-        ≡ shown head (now (table .entry)) []
-        (removing (now (strip .entry)) (Answer.Accepted 0) (sources (changes (now (list .entry)))) 0 (postings (head .used) (now (table .entry)))) ⌝ }
+    ensures { λ r. ⌜ outcomeOf r (now (table .exit)) [] ≡ shown head (now (table .entry)) []
+        (removing (now (strip .entry)) (Answer.Accepted 0) (sources (changes (now (list .entry)))) 0
+        (postings (head .used) (now (table .entry)))) ⌝ }
 {
     let cleared = steps::remove_sources(
         table,

@@ -55,7 +55,8 @@ unfolding firstRefusal andThen
 first-cons v vs = refl
 
 -- two checks, then others
-first-two : (u v : Verdict) (vs : List Verdict) → firstRefusal (u ∷ v ∷ vs) ≡ andThen (firstRefusal (u ∷ v ∷ [])) (firstRefusal vs)
+first-two :
+    (u v : Verdict) (vs : List Verdict) → firstRefusal (u ∷ v ∷ vs) ≡ andThen (firstRefusal (u ∷ v ∷ [])) (firstRefusal vs)
 unfolding andThen
 first-two u v vs = first-append (u ∷ v ∷ []) vs
 
@@ -71,23 +72,28 @@ ofLists cs gs strip = firstRefusal (listCheck (lending cs gs strip []) ∷ strip
 abbrev pub ofDestinations : Head → List ℕ → List ℕ → List ℕ → Verdict
 ofDestinations head table cs gs =
     firstRefusal
-    (guardCheck head (lending cs gs [] []) ∷ twiceCheck (lending cs gs [] []) ∷ presentCheck head table (lending cs gs [] []) ∷ [])
+    (guardCheck head (lending cs gs [] []) ∷ twiceCheck (lending cs gs [] []) ∷ presentCheck head table (lending cs gs [] [])
+    ∷ [])
 
 pub destinations-parts :
     (head : Head) (table cs gs : List ℕ) →
     ofDestinations head table cs gs ≡
-    andThen (guardCheck head (lending cs gs [] [])) (andThen (twiceCheck (lending cs gs [] [])) (presentCheck head table (lending cs gs [] [])))
+    andThen (guardCheck head (lending cs gs [] []))
+    (andThen (twiceCheck (lending cs gs [] [])) (presentCheck head table (lending cs gs [] [])))
 unfolding firstRefusal andThen
 destinations-parts head table cs gs =
-    ap (λ (v : Verdict). andThen (guardCheck head (lending cs gs [] [])) (andThen (twiceCheck (lending cs gs [] [])) v)) (else-passes (presentCheck head table (lending cs gs [] [])))
+    ap (λ (v : Verdict). andThen (guardCheck head (lending cs gs [] [])) (andThen (twiceCheck (lending cs gs [] [])) v))
+    (else-passes (presentCheck head table (lending cs gs [] [])))
 
 module _ (head : Head) (table cs gs strip list : List ℕ) where
   pub prepare-parts :
       prepareChecks head table (lending cs gs strip list) ≡
-      andThen (ofTable head table) (andThen (ofLists cs gs strip) (andThen (roomCheck (lending cs [] [] list)) (ofDestinations head table cs gs)))
+      andThen (ofTable head table)
+      (andThen (ofLists cs gs strip) (andThen (roomCheck (lending cs [] [] list)) (ofDestinations head table cs gs)))
   unfolding prepareChecks listCheck stripCheck roomCheck guardCheck twiceCheck presentCheck
   prepare-parts =
-      first-two _ _ _ ∙ ap (andThen (ofTable head table)) (first-two _ _ _ ∙ ap (andThen (ofLists cs gs strip)) (first-cons _ _))
+      first-two _ _ _ ∙ ap (andThen (ofTable head table))
+      (first-two _ _ _ ∙ ap (andThen (ofLists cs gs strip)) (first-cons _ _))
 
   pub publish-parts :
       publishChecks head table (lending cs gs strip list) ≡
@@ -162,7 +168,8 @@ pub removal-few :
 unfolding andThen
 removal-few head table cs gs strip list e =
     lists-few cs gs strip
-    (else-first (ofLists cs gs strip) _ (else-second (ofTable head table) _ (sym (removal-parts head table cs gs strip list) ∙ e)))
+    (else-first (ofLists cs gs strip) _
+    (else-second (ofTable head table) _ (sym (removal-parts head table cs gs strip list) ∙ e)))
 
 record-below :
     (place : ℕ) (cs : List Change) (earlier ns : List ℕ) → recordFrom place cs earlier ns ≡ Verdict.Passes →
@@ -182,7 +189,8 @@ module _ (head : Head) (table cs gs strip list : List ℕ) where
   unfolding andThen
   prepare-few e =
       lists-few cs gs strip
-      (else-first (ofLists cs gs strip) _ (else-second (ofTable head table) _ (sym (prepare-parts head table cs gs strip list) ∙ e)))
+      (else-first (ofLists cs gs strip) _
+      (else-second (ofTable head table) _ (sym (prepare-parts head table cs gs strip list) ∙ e)))
 
   pub publish-few : publishChecks head table (lending cs gs strip list) ≡ Verdict.Passes → length (changes cs) ≤ mostChanges
   unfolding andThen
@@ -198,7 +206,8 @@ module _ (head : Head) (table cs gs strip list : List ℕ) where
 
   -- each number of the record is a change's
   pub rollback-below :
-      rollbackChecks head table (lending cs gs strip list) ≡ Verdict.Passes → every (λ n. ltb n (length (changes cs))) list ≡ true
+      rollbackChecks head table (lending cs gs strip list) ≡ Verdict.Passes → every (λ n. ltb n (length (changes cs))) list
+      ≡ true
   unfolding andThen recordCheck
   rollback-below e =
       record-below 0 (changes cs) [] list

@@ -29,8 +29,9 @@ fn of_table(head: Head, table: &[u32]) -> Verdict
 
 // 3 LIST, 4 STRIP.
 fn of_lists(list: &[u32], pairs: &[u32], strip: &[u8]) -> Verdict
-    ensures { λ r. ⌜ r ≡ firstRefusal (listCheck (lending (now (list .entry)) (now (pairs .entry)) (now (strip .entry)) [])
-        ∷ stripCheck (lending (now (list .entry)) (now (pairs .entry)) (now (strip .entry)) []) ∷ []) ⌝ }
+    ensures { λ r. ⌜ r ≡ firstRefusal
+        (listCheck (lending (now (list .entry)) (now (pairs .entry)) (now (strip .entry)) []) ∷ stripCheck
+        (lending (now (list .entry)) (now (pairs .entry)) (now (strip .entry)) []) ∷ []) ⌝ }
 {
     if checks::proper_lists(list, pairs) {
         if checks::proper_strip(strip) {
@@ -54,9 +55,10 @@ fn of_room(list: &[u32], record: &[u32]) -> Verdict
 // 6 GUARD, 7 TWICE, 8 PRESENT.
 fn of_destinations(head: Head, table: &[u32], list: &[u32], pairs: &[u32]) -> Verdict
     requires { ⌜ (wellFormed head (now table) ≡ true) × (length (changes (now list)) ≤ mostChanges) ⌝ }
-    ensures { λ r. ⌜ r ≡ firstRefusal (guardCheck head (lending (now (list .entry)) (now (pairs .entry)) [] [])
-        ∷ twiceCheck (lending (now (list .entry)) (now (pairs .entry)) [] [])
-        ∷ presentCheck head (now (table .entry)) (lending (now (list .entry)) (now (pairs .entry)) [] []) ∷ []) ⌝ }
+    ensures { λ r. ⌜ r ≡ firstRefusal
+        (guardCheck head (lending (now (list .entry)) (now (pairs .entry)) [] []) ∷ twiceCheck
+        (lending (now (list .entry)) (now (pairs .entry)) [] []) ∷ presentCheck head (now (table .entry))
+        (lending (now (list .entry)) (now (pairs .entry)) [] []) ∷ []) ⌝ }
 {
     let guarded = checks::check_guards(head.bindings, list, pairs);
     let Verdict::Passes = guarded else {
@@ -78,7 +80,8 @@ pub fn of_prepare(
     strip: &[u8],
     record: &[u32],
 ) -> Verdict
-    ensures { λ r. ⌜ r ≡ prepareChecks head (now (table .entry)) (lending (now (list .entry)) (now (pairs .entry)) (now (strip .entry)) (now («record» .entry))) ⌝ }
+    ensures { λ r. ⌜ r ≡ prepareChecks head (now (table .entry))
+        (lending (now (list .entry)) (now (pairs .entry)) (now (strip .entry)) (now («record» .entry))) ⌝ }
 {
     let formed = of_table(head, table);
     let Verdict::Passes = formed else {
@@ -104,7 +107,8 @@ pub fn of_publish(
     strip: &[u8],
     record: &[u32],
 ) -> Verdict
-    ensures { λ r. ⌜ r ≡ publishChecks head (now (table .entry)) (lending (now (list .entry)) (now (pairs .entry)) (now (strip .entry)) (now («record» .entry))) ⌝ }
+    ensures { λ r. ⌜ r ≡ publishChecks head (now (table .entry))
+        (lending (now (list .entry)) (now (pairs .entry)) (now (strip .entry)) (now («record» .entry))) ⌝ }
 {
     let ready = of_prepare(head, table, list, pairs, strip, record);
     let Verdict::Passes = ready else {
@@ -115,7 +119,8 @@ pub fn of_publish(
 
 // 1 to 4, 6.
 pub fn of_removal(head: Head, table: &[u32], list: &[u32], pairs: &[u32], strip: &[u8]) -> Verdict
-    ensures { λ r. ⌜ r ≡ removalChecks head (now (table .entry)) (lending (now (list .entry)) (now (pairs .entry)) (now (strip .entry)) []) ⌝ }
+    ensures { λ r. ⌜ r ≡ removalChecks head (now (table .entry))
+        (lending (now (list .entry)) (now (pairs .entry)) (now (strip .entry)) []) ⌝ }
 {
     let formed = of_table(head, table);
     let Verdict::Passes = formed else {
@@ -137,7 +142,8 @@ pub fn of_rollback(
     strip: &[u8],
     record: &[u32],
 ) -> Verdict
-    ensures { λ r. ⌜ r ≡ rollbackChecks head (now (table .entry)) (lending (now (list .entry)) (now (pairs .entry)) (now (strip .entry)) (now («record» .entry))) ⌝ }
+    ensures { λ r. ⌜ r ≡ rollbackChecks head (now (table .entry))
+        (lending (now (list .entry)) (now (pairs .entry)) (now (strip .entry)) (now («record» .entry))) ⌝ }
 {
     let ready = of_removal(head, table, list, pairs, strip);
     let Verdict::Passes = ready else {

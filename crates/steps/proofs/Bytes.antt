@@ -21,7 +21,8 @@ module _ (byte capacity used : ℕ) (p : Posting) (t : List ℕ) (h : Held t use
   insert-stored e = rw (insertion-store byte capacity p (postings used t) e) (record { fault = refl; holds = h })
 
   pub insert-full :
-      byte ≡ 0 → capacity ≤ used → Inserts (insertion byte capacity p (postings used t)) (record { fault = Fault.Full; used = used }) t
+      byte ≡ 0 → capacity ≤ used → Inserts (insertion byte capacity p (postings used t))
+      (record { fault = Fault.Full; used = used }) t
   insert-full e k =
       let r : capacity ≤ length (postings used t) = rw (← h .count) k in
       rw (insertion-full byte capacity p (postings used t) e r) (record { fault = refl; holds = h })

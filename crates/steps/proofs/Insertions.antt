@@ -72,19 +72,23 @@ module _ {cs : List Change} {strip : List ℕ} {used₀ : ℕ} {t₀ t : List �
     (z : Preparing cs strip used₀ t₀ t used read inserted i) where
   pub prepare-end :
       length cs ≤ i →
-      Reaches (preparing (capacity t₀) strip (destinationsFrom 0 cs) [] 0 (postings used₀ t₀)) (record { answer = Answer.Accepted inserted; used = used; read = read }) t (length cs * 2 + 1)
+      Reaches (preparing (capacity t₀) strip (destinationsFrom 0 cs) [] 0 (postings used₀ t₀))
+      (record { answer = Answer.Accepted inserted; used = used; read = read }) t (length cs * 2 + 1)
   unfolding preparing
   prepare-end h =
       let f = z .few in
       let l = z .low in
-      rw (z .is ∙ ap (λ ds. preparing (capacity t₀) strip ds (backward inOrder i cs) read (postings used t)) (destinations-none cs i h))
+      rw
+      (z .is ∙ ap (λ ds. preparing (capacity t₀) strip ds (backward inOrder i cs) read (postings used t))
+      (destinations-none cs i h))
       (record { answer = ap Answer.Accepted (z .count); holds = z .held; read = refl; few = omega arith })
 
   module _ (h : i < length cs) (c : Change) (ec : c ≡ getD cs i noChange) where
     left :
         (k : Key) → destinationOf c ≡ k →
         preparing (capacity t₀) strip (destinationsFrom 0 cs) [] 0 (postings used₀ t₀) ≡
-        preparing (capacity t₀) strip (named i c k (destinationsFrom (i + 1) (drop (i + 1) cs))) (backward inOrder i cs) read (postings used t)
+        preparing (capacity t₀) strip (named i c k (destinationsFrom (i + 1) (drop (i + 1) cs))) (backward inOrder i cs)
+        read (postings used t)
     left k e =
         z .is
         ∙ (ap (λ ds. preparing (capacity t₀) strip ds (backward inOrder i cs) read (postings used t)) (destinations-left cs i h)
@@ -105,7 +109,9 @@ module _ {cs : List Change} {strip : List ℕ} {used₀ : ℕ} {t₀ t : List �
           held = z .held;
           is =
               left Key.Missing e
-              ∙ ap (λ done. preparing (capacity t₀) strip (destinationsFrom (i + 1) (drop (i + 1) cs)) done read (postings used t)) (sym b);
+              ∙ ap
+              (λ done. preparing (capacity t₀) strip (destinationsFrom (i + 1) (drop (i + 1) cs)) done read (postings used t))
+              (sym b);
         }
 
     module _ (key byte : ℕ) (t′ : List ℕ) (r : Inserted) (ek : destinationOf c ≡ Key.Named key) (eb : byte ≡ byteAt strip read)
@@ -114,13 +120,16 @@ module _ {cs : List Change} {strip : List ℕ} {used₀ : ℕ} {t₀ t : List �
           (fault : Fault) → r .fault ≡ fault →
           preparing (capacity t₀) strip (destinationsFrom 0 cs) [] 0 (postings used₀ t₀) ≡
           byFault fault i (undoing strip (backward inOrder i cs) Verdict.Passes (read + 1) (postings (r .used) t′))
-          (preparing (capacity t₀) strip (destinationsFrom (i + 1) (drop (i + 1) cs)) (backward inOrder (i + 1) cs) (read + 1) (postings (r .used) t′))
+          (preparing (capacity t₀) strip (destinationsFrom (i + 1) (drop (i + 1) cs)) (backward inOrder (i + 1) cs)
+          (read + 1) (postings (r .used) t′))
       stepped fault e =
           left (Key.Named key) ek
           ∙ (preparing-step (capacity t₀) strip (record { number = i; posting = record { binding = c .binding; key = key; row = c .row } }) (destinationsFrom (i + 1) (drop (i + 1) cs)) (backward inOrder i cs) read (postings used t)
           ∙ rw (← z .len, ← eb, sym (o .fault) ∙ e, holds-postings _ _ _ (o .holds), backward-more cs i c (Key.Named key) ec ek))
 
-      pub prepare-clear : r .fault ≡ Fault.Nothing → length t′ ≡ length t → Preparing cs strip used₀ t₀ t′ (r .used) (read + 1) (inserted + 1) (i + 1)
+      pub prepare-clear :
+          r .fault ≡ Fault.Nothing → length t′ ≡ length t →
+          Preparing cs strip used₀ t₀ t′ (r .used) (read + 1) (inserted + 1) (i + 1)
       prepare-clear e l =
           let f = z .few in
           let s = z .some in
@@ -140,10 +149,14 @@ module _ {cs : List Change} {strip : List ℕ} {used₀ : ℕ} {t₀ t : List �
       pub prepare-stop :
           (fault : Fault) (why : Answer) (reached : Reached) (t″ : List ℕ) → r .fault ≡ fault →
           byFault fault i (undoing strip (backward inOrder i cs) Verdict.Passes (read + 1) (postings (r .used) t′))
-          (preparing (capacity t₀) strip (destinationsFrom (i + 1) (drop (i + 1) cs)) (backward inOrder (i + 1) cs) (read + 1) (postings (r .used) t′))
+          (preparing (capacity t₀) strip (destinationsFrom (i + 1) (drop (i + 1) cs)) (backward inOrder (i + 1) cs)
+          (read + 1) (postings (r .used) t′))
           ≡ notInserted why i (undoing strip (backward inOrder i cs) Verdict.Passes (read + 1) (postings (r .used) t′)) →
-          Reaches (notInserted why i (undoing strip (backward inOrder i cs) Verdict.Passes (read + 1) (postings (r .used) t′))) reached t″ (read + 1 + i) →
-          Reaches (preparing (capacity t₀) strip (destinationsFrom 0 cs) [] 0 (postings used₀ t₀)) reached t″ (length cs * 2 + 1)
+          Reaches
+          (notInserted why i (undoing strip (backward inOrder i cs) Verdict.Passes (read + 1) (postings (r .used) t′)))
+          reached t″ (read + 1 + i) →
+          Reaches (preparing (capacity t₀) strip (destinationsFrom 0 cs) [] 0 (postings used₀ t₀)) reached t″
+          (length cs * 2 + 1)
       prepare-stop fault why reached t″ e same u =
           let f = z .few in
           let m = u .few in

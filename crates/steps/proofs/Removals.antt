@@ -33,7 +33,8 @@ removing-step :
     (strip : List ℕ) (clear : Answer) (d : Numbered) (ds : List Numbered) (read : ℕ) (ps : List Posting) →
     removing strip clear (d ∷ ds) read ps ≡
     cond (removal (byteAt strip read) (d .posting) ps .failed)
-    (record { answer = Answer.Source (d .number); postings = removal (byteAt strip read) (d .posting) ps .postings; read = read + 1 })
+    (record
+    { answer = Answer.Source (d .number); postings = removal (byteAt strip read) (d .posting) ps .postings; read = read + 1 })
     (removing strip clear ds (read + 1) (removal (byteAt strip read) (d .posting) ps .postings))
 unfolding removing
 removing-step strip clear d ds read ps = refl
@@ -48,7 +49,8 @@ module _ {cs : List Change} {strip : List ℕ} {clear : Answer} {read₀ used₀
     (z : Removing cs strip clear read₀ used₀ t₀ t used read i) where
   pub remove-end :
       length cs ≤ i →
-      Reaches (removing strip clear (sourcesFrom 0 cs) read₀ (postings used₀ t₀)) (record { answer = clear; used = used; read = read }) t (read₀ + length cs)
+      Reaches (removing strip clear (sourcesFrom 0 cs) read₀ (postings used₀ t₀))
+      (record { answer = clear; used = used; read = read }) t (read₀ + length cs)
   unfolding removing
   remove-end h =
       let f = z .few in
@@ -83,14 +85,17 @@ module _ {cs : List Change} {strip : List ℕ} {clear : Answer} {read₀ used₀
           ∙ (removing-step strip clear (record { number = i; posting = record { binding = c .binding; key = key; row = c .row } }) (sourcesFrom (i + 1) (drop (i + 1) cs)) read (postings used t)
           ∙ rw (← eb, sym (o .failed) ∙ e, holds-postings _ _ _ (o .holds)))
 
-      pub remove-clear : r .failed ≡ false → length t′ ≡ length t → Removing cs strip clear read₀ used₀ t₀ t′ (r .used) (read + 1) (i + 1)
+      pub remove-clear :
+          r .failed ≡ false → length t′ ≡ length t → Removing cs strip clear read₀ used₀ t₀ t′ (r .used) (read + 1) (i + 1)
       remove-clear e l =
           let f = z .few in
-          record { low = omega arith; few = omega arith; len = l ∙ z .len; held = holds-held _ _ _ (o .holds); is = stepped false e }
+          record
+          { low = omega arith; few = omega arith; len = l ∙ z .len; held = holds-held _ _ _ (o .holds); is = stepped false e }
 
       pub remove-stop :
           r .failed ≡ true →
-          Reaches (removing strip clear (sourcesFrom 0 cs) read₀ (postings used₀ t₀)) (record { answer = Answer.Source i; used = r .used; read = read + 1 }) t′ (read₀ + length cs)
+          Reaches (removing strip clear (sourcesFrom 0 cs) read₀ (postings used₀ t₀))
+          (record { answer = Answer.Source i; used = r .used; read = read + 1 }) t′ (read₀ + length cs)
       remove-stop e =
           let f = z .few in
           rw (stepped true e) (record { answer = refl; holds = holds-held _ _ _ (o .holds); read = refl; few = omega arith })

@@ -32,13 +32,17 @@ undone-none strip number c from t e h =
     record {
       held = h;
       few = omega arith;
-      rest = λ ds. ap (λ (k : Key). undoing strip (named number c k ds) (from .verdict) (from .read) (postings (from .used) t)) e;
+      rest =
+          λ ds. ap (λ (k : Key). undoing strip (named number c k ds) (from .verdict) (from .read) (postings (from .used) t))
+          e;
     }
 
 undoing-step :
     (strip : List ℕ) (d : Numbered) (ds : List Numbered) (v : Verdict) (read : ℕ) (ps : List Posting) →
     undoing strip (d ∷ ds) v read ps ≡
-    undoing strip ds (cond (removal (byteAt strip read) (d .posting) ps .failed) (Verdict.Refused (Answer.Undo (d .number))) v) (read + 1) (removal (byteAt strip read) (d .posting) ps .postings)
+    undoing strip ds
+    (cond (removal (byteAt strip read) (d .posting) ps .failed) (Verdict.Refused (Answer.Undo (d .number))) v) (read + 1)
+    (removal (byteAt strip read) (d .posting) ps .postings)
 unfolding undoing
 undoing-step strip d ds v read ps = refl
 
@@ -46,8 +50,12 @@ undoing-step strip d ds v read ps = refl
 pub undone-one :
     (strip : List ℕ) (number : ℕ) (c : Change) (key byte : ℕ) (from : Back) (t t′ : List ℕ) (r : Removed) (b : Bool) →
     destinationOf c ≡ Key.Named key → byte ≡ byteAt strip (from .read) →
-    Removes (removal byte (record { binding = c .binding; key = key; row = c .row }) (postings (from .used) t)) r t′ → r .failed ≡ b →
-    UndoesOne strip number c from t (record { verdict = cond b (Verdict.Refused (Answer.Undo number)) (from .verdict); used = r .used; read = from .read + 1 }) t′
+    Removes (removal byte (record { binding = c .binding; key = key; row = c .row }) (postings (from .used) t)) r t′ → r
+    .failed ≡ b →
+    UndoesOne strip number c from t
+    (record
+    { verdict = cond b (Verdict.Refused (Answer.Undo number)) (from .verdict); used = r .used; read = from .read + 1 })
+    t′
 undone-one strip number c key byte from t t′ r b e eb o f =
     let p : Posting = record { binding = c .binding; key = key; row = c .row } in
     record {
@@ -72,7 +80,8 @@ pub record Undoing (number : ℕ → ℕ) (cs : List Change) (strip : List ℕ) 
 
 backward-next :
     (number : ℕ → ℕ) (cs : List Change) (i : ℕ) → 0 < i →
-    backward number i cs ≡ named (number (i - 1)) (getD cs (number (i - 1)) noChange) (destinationOf (getD cs (number (i - 1)) noChange)) (backward number (i - 1) cs)
+    backward number i cs ≡ named (number (i - 1)) (getD cs (number (i - 1)) noChange)
+    (destinationOf (getD cs (number (i - 1)) noChange)) (backward number (i - 1) cs)
 unfolding backward
 backward-next number cs zero h = absurd (omega arith)
 backward-next number cs (suc i) h = let e : suc i - 1 ≡ i = omega arith in rw e
@@ -135,7 +144,9 @@ backward-last cs n ns zero = refl
 backward-last cs n ns (suc i) =
     let k : ℕ = getD ns i 0 in
     ap (named k (getD cs k noChange) (destinationOf (getD cs k noChange))) (backward-last cs n ns i)
-    ∙ sym (named-append k (getD cs k noChange) (destinationOf (getD cs k noChange)) (backward (asRecorded ns) i cs) (named n (getD cs n noChange) (destinationOf (getD cs n noChange)) []))
+    ∙ sym
+    (named-append k (getD cs k noChange) (destinationOf (getD cs k noChange)) (backward (asRecorded ns) i cs)
+    (named n (getD cs n noChange) (destinationOf (getD cs n noChange)) []))
 
 backward-none : (cs : List Change) → [] ≡ backward (asRecorded []) 0 cs
 unfolding backward
@@ -161,7 +172,8 @@ number-below count (n ∷ ns) (suc i) e h =
 -- a change could not be inserted: the answer that says why where the undo was clean, else 12 with that change
 module _ (why : Answer) (change : ℕ) {u : Undone} {b : Back} {t : List ℕ} {most : ℕ} (o : Undoes u b t most) where
   pub undone-clean :
-      b .verdict ≡ Verdict.Passes → Reaches (notInserted why change u) (record { answer = why; used = b .used; read = b .read }) t most
+      b .verdict ≡ Verdict.Passes → Reaches (notInserted why change u)
+      (record { answer = why; used = b .used; read = b .read }) t most
   undone-clean e =
       record {
         answer = ap (λ (v : Verdict). whyNot v why change) (sym e ∙ o .verdict);

@@ -66,7 +66,8 @@ fn byte_at(strip: &[u8], read: usize) -> u8
 // Byte 0 inserts, or fails full where there is no room; byte 1 or 2 fails unchanged.
 fn insert_by(byte: u8, table: &mut [u32], used: usize, p: Posting) -> Inserted
     requires { ⌜ Held (now table) used ⌝ }
-    ensures { λ r. ⌜ Inserts (insertion byte (capacity (now (table .entry))) p (postings used (now (table .entry)))) r (now (table .exit)) ⌝ }
+    ensures { λ r. ⌜ Inserts (insertion byte (capacity (now (table .entry))) p (postings used (now (table .entry)))) r
+        (now (table .exit)) ⌝ }
 {
     if byte != 0 {
         return Inserted {
@@ -107,7 +108,8 @@ fn undo_change(table: &mut [u32], list: &[u32], strip: &[u8], number: usize, so_
     requires { ⌜ Held (now table) («so_far» .used) ⌝ }
     requires { ⌜ (number < length (changes (now list))) × (length (changes (now list)) ≤ mostChanges) ⌝ }
     requires { ⌜ «so_far» .read + 1 < 2 ^ 64 ⌝ }
-    ensures { λ r. ⌜ UndoesOne (now (strip .entry)) number (getD (changes (now (list .entry))) number noChange) «so_far» (now (table .entry)) r (now (table .exit)) ⌝ }
+    ensures { λ r. ⌜ UndoesOne (now (strip .entry)) number (getD (changes (now (list .entry))) number noChange) «so_far»
+        (now (table .entry)) r (now (table .exit)) ⌝ }
 {
     let change = change_at(list, number);
     let Key::Named(key) = destination_of(change) else {
@@ -142,7 +144,9 @@ fn undo_below(
     requires { ⌜ Held (now table) used ⌝ }
     requires { ⌜ (change ≤ length (changes (now list))) × (length (changes (now list)) ≤ mostChanges) ⌝ }
     requires { ⌜ read ≤ length (changes (now list)) + 1 ⌝ }
-    ensures { λ r. ⌜ Undoes (undoing (now (strip .entry)) (backward inOrder change (changes (now (list .entry)))) Verdict.Passes read (postings used (now (table .entry))))
+    ensures { λ r. ⌜ Undoes
+        (undoing (now (strip .entry)) (backward inOrder change (changes (now (list .entry)))) Verdict.Passes read
+        (postings used (now (table .entry))))
         r (now (table .exit)) (read + change) ⌝ }
 {
     let mut so_far = Back {
@@ -162,7 +166,9 @@ fn undo_below(
 pub fn rollback(table: &mut [u32], list: &[u32], strip: &[u8], record: &[u32], used: usize) -> Back
     requires { ⌜ Held (now table) used × (length (changes (now list)) ≤ mostChanges) ⌝ }
     requires { ⌜ every (λ n. ltb n (length (changes (now list)))) (now «record») ≡ true ⌝ }
-    ensures { λ r. ⌜ Undoes (undoing (now (strip .entry)) (reverse (recorded (changes (now (list .entry))) (now («record» .entry)))) Verdict.Passes 0 (postings used (now (table .entry))))
+    ensures { λ r. ⌜ Undoes
+        (undoing (now (strip .entry)) (reverse (recorded (changes (now (list .entry))) (now («record» .entry))))
+        Verdict.Passes 0 (postings used (now (table .entry))))
         r (now (table .exit)) (length (now («record» .entry))) ⌝ }
 {
     let mut so_far = Back {
@@ -191,7 +197,10 @@ fn not_inserted(
     requires { ⌜ Held (now table) used ⌝ }
     requires { ⌜ (change ≤ length (changes (now list))) × (length (changes (now list)) ≤ mostChanges) ⌝ }
     requires { ⌜ read ≤ length (changes (now list)) + 1 ⌝ }
-    ensures { λ r. ⌜ Reaches (notInserted why change (undoing (now (strip .entry)) (backward inOrder change (changes (now (list .entry)))) Verdict.Passes read (postings used (now (table .entry)))))
+    ensures { λ r. ⌜ Reaches
+        (notInserted why change
+        (undoing (now (strip .entry)) (backward inOrder change (changes (now (list .entry)))) Verdict.Passes read
+        (postings used (now (table .entry)))))
         r (now (table .exit)) (read + change) ⌝ }
 {
     let undone = undo_below(table, list, strip, change, used, read);
@@ -213,7 +222,9 @@ fn not_inserted(
 // Prepare: the destinations go in, up the list. At a failed insertion all is undone.
 pub fn prepare(table: &mut [u32], list: &[u32], strip: &[u8], used: usize) -> Reached
     requires { ⌜ Held (now table) used × (length (changes (now list)) ≤ mostChanges) ⌝ }
-    ensures { λ r. ⌜ Reaches (preparing (capacity (now (table .entry))) (now (strip .entry)) (destinations (changes (now (list .entry)))) [] 0 (postings used (now (table .entry))))
+    ensures { λ r. ⌜ Reaches
+        (preparing (capacity (now (table .entry))) (now (strip .entry)) (destinations (changes (now (list .entry)))) [] 0
+        (postings used (now (table .entry))))
         r (now (table .exit)) (length (changes (now (list .entry))) * 2 + 1) ⌝ }
 {
     let n = count_of(list);
@@ -271,7 +282,8 @@ pub fn prepare(table: &mut [u32], list: &[u32], strip: &[u8], used: usize) -> Re
 // The record of a prepare: the numbers of the changes with a destination, ascending. It is written after the last insertion.
 pub fn write_record(list: &[u32], record: &mut [u32])
     requires { ⌜ (length (changes (now list)) ≤ mostChanges) × (length (changes (now list)) ≤ length (now «record»)) ⌝ }
-    ensures { λ _. ⌜ now («record» .exit) ≡ written (numbersOf (destinations (changes (now (list .entry))))) (now («record» .entry)) ⌝ }
+    ensures { λ _. ⌜ now («record» .exit) ≡ written (numbersOf (destinations (changes (now (list .entry)))))
+        (now («record» .entry)) ⌝ }
 {
     let n = count_of(list);
     let mut place: usize = 0;
@@ -298,7 +310,9 @@ pub fn remove_sources(
 ) -> Reached
     requires { ⌜ Held (now table) used × (length (changes (now list)) ≤ mostChanges) ⌝ }
     requires { ⌜ read ≤ length (changes (now list)) * 2 + 1 ⌝ }
-    ensures { λ r. ⌜ Reaches (removing (now (strip .entry)) clear (sources (changes (now (list .entry)))) read (postings used (now (table .entry))))
+    ensures { λ r. ⌜ Reaches
+        (removing (now (strip .entry)) clear (sources (changes (now (list .entry)))) read
+        (postings used (now (table .entry))))
         r (now (table .exit)) (read + length (changes (now (list .entry)))) ⌝ }
 {
     let n = count_of(list);

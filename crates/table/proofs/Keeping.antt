@@ -67,7 +67,8 @@ module _ (t : List ℕ) (used : ℕ) (p : Posting) (at : ℕ) (h : Held t used) 
       let n : used ≡ length ps = h .count in
       let low : at ≤ length ps = gap-most p ps at e in
       let new : inserted p ps ≡ take at ps ++ p ∷ drop at ps = inserted-in-gap p ps at (h .sorted) e in
-      laid-held t y (inserted p ps) (used + 1) (let f = length-inserted p ps (gap-absent p ps at e) in omega arith) (omega arith)
+      laid-held t y (inserted p ps) (used + 1) (let f = length-inserted p ps (gap-absent p ps at e) in omega arith)
+      (omega arith)
       (ascending-inserted p ps (h .sorted))
       (ey
       ∙ (ap (stored (at * 3) p) ex

@@ -33,7 +33,15 @@ raised-turn l x (suc k) to e p h r =
     let same : getD x k 0 ≡ getD l k 0 =
     ap (λ (y : List ℕ). getD y k 0) (e ∙ whole)
     ∙ (List·getD-append (take (k + 3) l) (getD l (k + 3) 0 ∷ rest) 0 k (omega arith) ∙ getD-take (k + 3) l k 0 (omega arith)) in
-    rw (one, same, e ∙ whole, two, set-at (take (k + 3) l) (getD l (k + 3) 0) rest (getD l k 0) (k + 3) long, slice-cons k to l 0 (omega arith) (omega arith))
+    rw (
+      one,
+      same,
+      e ∙ whole,
+      two,
+      set-at (take (k + 3) l) (getD l (k + 3) 0) rest (getD l k 0) (k + 3) long,
+      slice-cons k to l
+          0 (omega arith) (omega arith),
+    )
 
 slice-more : (f t : ℕ) (l : List ℕ) → f ≤ t → t < length l → slice f (suc t) l ≡ slice f t l ++ (getD l t 0 ∷ [])
 slice-more f t l h k =
@@ -66,7 +74,10 @@ lowering-turn l x from k e h r =
     parts ∙ ap (λ (y : List ℕ). moved ++ y) (drop-cons l k 0 (omega arith)) in
     let value : getD x (k + 3) 0 ≡ getD l (k + 3) 0 =
     ap (λ (y : List ℕ). getD y (k + 3) 0) parts
-    ∙ (ap (λ (n : ℕ). getD (moved ++ drop k l) (n + 3) 0) (sym long) ∙ (getD-append-add moved (drop k l) 3 0 ∙ getD-drop k l 3 0)) in
+    ∙
+    (ap (λ (n : ℕ). getD (moved ++ drop k l) (n + 3) 0) (sym long) ∙
+    (getD-append-add moved (drop k l) 3 0 ∙ getD-drop k l 3 0))
+    in
     let next : k + 1 + 3 ≡ suc (k + 3) = omega arith in
     let more : slice (from + 3) (k + 1 + 3) l ≡ slice (from + 3) (k + 3) l ++ (getD l (k + 3) 0 ∷ []) =
     rw next (slice-more (from + 3) (k + 3) l (omega arith) (omega arith)) in

@@ -118,7 +118,8 @@ removed-at p (q ∷ qs) h e = go (compared q p) refl (λ k. removed-at p qs (asc
     go :
         (o : Order) → compared q p ≡ o →
         (present p qs ≡ true → removed p qs ≡ take (earlier p qs) qs ++ drop (suc (earlier p qs)) qs) →
-        cond (same p q) (removed p qs) (q ∷ removed p qs) ≡ take (earlier p (q ∷ qs)) (q ∷ qs) ++ drop (suc (earlier p (q ∷ qs))) (q ∷ qs)
+        cond (same p q) (removed p qs) (q ∷ removed p qs) ≡ take (earlier p (q ∷ qs)) (q ∷ qs) ++ drop
+        (suc (earlier p (q ∷ qs))) (q ∷ qs)
     go Order.Before k ih =
         rw (apart p q k, earlier-before p q qs k, ih (sym (present-before p q qs k) ∙ e))
     go Order.Same k ih =
@@ -179,7 +180,8 @@ module _ (p : Posting) (ps : List Posting) (i : ℕ) (z : Passed p ps i) where
       pub passed-after : compared q p ≡ Order.After → placeOf p ps ≡ Place.Gap i
       unfolding placeOf
       passed-after e =
-          rw (z .beyond ∙ (ap (present p) here ∙ present-after p q (drop (i + 1) ps) chained e)) (ap Place.Gap (stopped (ap isBefore e)))
+          rw (z .beyond ∙ (ap (present p) here ∙ present-after p q (drop (i + 1) ps) chained e))
+          (ap Place.Gap (stopped (ap isBefore e)))
 
 -- where a search found it, and whether it stands there
 pub at-present : (p : Posting) (ps : List Posting) (at : ℕ) → placeOf p ps ≡ Place.At at → present p ps ≡ true

@@ -53,7 +53,10 @@ module _ (t : List ℕ) (used : ℕ) (room : used * 3 ≤ length t) (i : ℕ) (h
     where
       counted-head :
           (b : Bool) →
-          length (cond b (q .row ∷ bucket binding key (drop (i + 1) (postings used t))) (bucket binding key (drop (i + 1) (postings used t)))) ≡
+          length
+          (cond b (q .row ∷ bucket binding key (drop (i + 1) (postings used t)))
+          (bucket binding key (drop (i + 1) (postings used t))))
+          ≡
           cond b 1 0 + length (bucket binding key (drop (i + 1) (postings used t)))
       counted-head true = omega arith
       counted-head false = omega arith
@@ -85,7 +88,12 @@ binding-before p q e = go (tri (p .binding) (q .binding))
     go (less h) = omega arith
     go (equal h) = omega arith
     go (more h) =
-        let z : _≡_ {A = ℕ} 0 1 = cc (e, ranked-more (p .binding) (q .binding) (ranked (p .key) (q .key) (ranked (p .row) (q .row) Order.Same)) h) in
+        let z : _≡_ {A =
+        ℕ} 0 1 = cc (
+          e,
+          ranked-more (p .binding) (q .binding)
+              (ranked (p .key) (q .key) (ranked (p .row) (q .row) Order.Same)) h,
+        ) in
         absurd (omega arith)
 
 -- in an ascending list the last posting has the greatest binding, so it alone decides

@@ -15,12 +15,14 @@ returns c = rw (eq-eqb _ 12 (ap (λ (t : Told). t .answer) (sym (c .before .tell
 
 returns-2 : tie.Need-returns-2
 returns-2 c =
-    let n : toldOf (c .before .before .before .args .answer) .answer ≡ c .before .before .tell .result .answer = ap (λ (t : Told). t .answer) (sym (c .before .before .tell .ensures)) in
+    let n : toldOf (c .before .before .before .args .answer) .answer ≡ c .before .before .tell .result .answer =
+    ap (λ (t : Told). t .answer) (sym (c .before .before .tell .ensures)) in
     rw (ne-eqb _ 12 (λ e. c .before .if1 .left (sym n ∙ e)), eq-eqb _ 13 (n ∙ c .if2 .taken))
 
 returns-3 : tie.Need-returns-3
 returns-3 c =
-    let n : toldOf (c .before .before .before .args .answer) .answer ≡ c .before .before .tell .result .answer = ap (λ (t : Told). t .answer) (sym (c .before .before .tell .ensures)) in
+    let n : toldOf (c .before .before .before .args .answer) .answer ≡ c .before .before .tell .result .answer =
+    ap (λ (t : Told). t .answer) (sym (c .before .before .tell .ensures)) in
     rw (ne-eqb _ 12 (λ e. c .before .if1 .left (sym n ∙ e)), ne-eqb _ 13 (λ e. c .if2 .left (sym n ∙ e)))
 
 pub flag-after-spec : {M : Type 1} → statement M

@@ -52,7 +52,8 @@ mul-key-of-3 : tie.Need-mul-key-of-3
 mul-key-of-3 c = omega (arith, changes-length (c .before .before .before .before .before .before .args .list .now))
 
 shared-slice-read-key-of-3 : tie.Need-shared-slice-read-key-of-3
-shared-slice-read-key-of-3 c = omega (arith, changes-length (c .before .before .before .before .before .before .before .args .list .now))
+shared-slice-read-key-of-3 c =
+    omega (arith, changes-length (c .before .before .before .before .before .before .before .args .list .now))
 
 add-key-of-4 : tie.Need-add-key-of-4
 add-key-of-4 c = omega (arith, changes-length (c .before .before .before .before .before .before .before .args .list .now))
@@ -61,7 +62,8 @@ mul-key-of-4 : tie.Need-mul-key-of-4
 mul-key-of-4 c = omega (arith, changes-length (c .before .before .before .before .before .before .before .args .list .now))
 
 shared-slice-read-key-of-4 : tie.Need-shared-slice-read-key-of-4
-shared-slice-read-key-of-4 c = omega (arith, changes-length (c .before .before .before .before .before .before .before .before .args .list .now))
+shared-slice-read-key-of-4 c =
+    omega (arith, changes-length (c .before .before .before .before .before .before .before .before .args .list .now))
 
 key-of-requires-2 : tie.Need-key-of-requires-2
 key-of-requires-2 c κs = search needs

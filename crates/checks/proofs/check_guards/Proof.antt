@@ -14,7 +14,9 @@ use Rattle.checks.proofs.check_guards.Tie as tie
 
 abbrev Inv-loop : tie.InvT-loop
 Inv-loop bindings list pairs n i₀ i =
-    (i ≤ n) × (firstFailing (guarded bindings (guards pairs)) (λ i change. Answer.Guard i) 0 (changes list) ≡ firstFailing (guarded bindings (guards pairs)) (λ i change. Answer.Guard i) i (drop i (changes list)))
+    (i ≤ n) ×
+    (firstFailing (guarded bindings (guards pairs)) (λ i change. Answer.Guard i) 0 (changes list) ≡ firstFailing
+    (guarded bindings (guards pairs)) (λ i change. Answer.Guard i) i (drop i (changes list)))
 
 abbrev μ-loop : tie.MeasureT-loop
 μ-loop bindings list pairs n i₀ i = n - i
@@ -41,8 +43,11 @@ loop-again : tie.Need-loop-again Inv-loop μ-loop
 loop-again c =
     let at = c .before .before .before .before in
     let start = at .before .before .before .before in
-    let read = c .before .before .change-at in
-    (omega arith, at .loop .inv .1 ∙ failing-left noChange _ _ (changes (start .args .list .now)) (at .loop .i) (read .result) true (omega arith) (read .ensures) (sym (c .before .is-guarded .ensures) ∙ c .if1 .taken))
+    let read = c .before .before .change-at in (
+      omega arith,
+      at .loop .inv .1 ∙ failing-left noChange _ _ (changes (start .args .list .now)) (at .loop .i)
+          (read .result) true (omega arith) (read .ensures) (sym (c .before .is-guarded .ensures) ∙ c .if1 .taken),
+    )
 
 cast-t9 : tie.Need-cast-t9 Inv-loop μ-loop
 cast-t9 c = search needs
@@ -52,12 +57,16 @@ returns c =
     let at = c .before .before .before .before in
     let start = at .before .before .before .before in
     let read = c .before .before .change-at in
-    sym (at .loop .inv .1 ∙ failing-left noChange _ _ (changes (start .args .list .now)) (at .loop .i) (read .result) false (omega arith) (read .ensures) (sym (c .before .is-guarded .ensures) ∙ c .if1 .left))
+    sym
+    (at .loop .inv .1 ∙ failing-left noChange _ _ (changes (start .args .list .now)) (at .loop .i) (read .result) false
+    (omega arith) (read .ensures) (sym (c .before .is-guarded .ensures) ∙ c .if1 .left))
 
 returns-2 : tie.Need-returns-2 Inv-loop μ-loop
 returns-2 c =
     let at = c .before in
-    sym (at .loop .inv .1 ∙ failing-none noChange _ _ (changes (at .before .before .before .before .args .list .now)) (at .loop .i) (omega arith))
+    sym
+    (at .loop .inv .1 ∙ failing-none noChange _ _ (changes (at .before .before .before .before .args .list .now))
+    (at .loop .i) (omega arith))
 
 pub check-guards-spec : {M : Type 1} → statement M
 check-guards-spec =

@@ -14,7 +14,9 @@ use Rattle.checks.proofs.check_overlap.Tie as tie
 
 abbrev Inv-loop : tie.InvT-loop
 Inv-loop list n i₀ i =
-    (i ≤ n) × (firstOf (λ s. present s (postingsOf (destinations (changes list)))) Answer.Overlap (sources (changes list)) ≡ firstOf (λ s. present s (postingsOf (destinations (changes list)))) Answer.Overlap (sourcesFrom i (drop i (changes list))))
+    (i ≤ n) ×
+    (firstOf (λ s. present s (postingsOf (destinations (changes list)))) Answer.Overlap (sources (changes list)) ≡ firstOf
+    (λ s. present s (postingsOf (destinations (changes list)))) Answer.Overlap (sourcesFrom i (drop i (changes list))))
 
 abbrev μ-loop : tie.MeasureT-loop
 μ-loop list n i₀ i = n - i
@@ -38,7 +40,9 @@ returns : tie.Need-returns Inv-loop μ-loop
 returns c =
     let at = c .before .before .before .before in
     let read = c .before .before .change-at in
-    sym (at .loop .inv .1 ∙ first-source _ Answer.Overlap (changes (at .before .before .before .args .list .now)) (at .loop .i) (read .result) true (omega arith) (read .ensures) (sym (c .before .overlaps .ensures) ∙ c .if1 .taken))
+    sym
+    (at .loop .inv .1 ∙ first-source _ Answer.Overlap (changes (at .before .before .before .args .list .now)) (at .loop .i)
+    (read .result) true (omega arith) (read .ensures) (sym (c .before .overlaps .ensures) ∙ c .if1 .taken))
 
 add-i : tie.Need-add-i Inv-loop μ-loop
 add-i c = search needs
@@ -49,14 +53,19 @@ loop-less c = search needs
 loop-again : tie.Need-loop-again Inv-loop μ-loop
 loop-again c =
     let at = c .before .before .before .before in
-    let read = c .before .before .change-at in
-    (omega arith, at .loop .inv .1 ∙ first-source _ Answer.Overlap (changes (at .before .before .before .args .list .now)) (at .loop .i) (read .result) false (omega arith) (read .ensures) (sym (c .before .overlaps .ensures) ∙ c .if1 .left))
+    let read = c .before .before .change-at in (
+      omega arith,
+      at .loop .inv .1 ∙ first-source _ Answer.Overlap (changes (at .before .before .before .args .list .now))
+          (at .loop .i) (read .result) false (omega arith) (read .ensures) (sym (c .before .overlaps .ensures) ∙ c .if1 .left),
+    )
 
 returns-2 : tie.Need-returns-2 Inv-loop μ-loop
 returns-2 c =
     let at = c .before in
     let start = at .before .before .before in
-    sym (at .loop .inv .1 ∙ no-source (λ s. present s (postingsOf (destinations (changes (start .args .list .now))))) Answer.Overlap (changes (start .args .list .now)) (at .loop .i) (omega arith))
+    sym
+    (at .loop .inv .1 ∙ no-source (λ s. present s (postingsOf (destinations (changes (start .args .list .now)))))
+    Answer.Overlap (changes (start .args .list .now)) (at .loop .i) (omega arith))
 
 pub check-overlap-spec : {M : Type 1} → statement M
 check-overlap-spec =

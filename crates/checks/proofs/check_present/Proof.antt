@@ -15,7 +15,9 @@ use Rattle.checks.proofs.check_present.Tie as tie
 
 abbrev Inv-loop : tie.InvT-loop
 Inv-loop table used list n i₀ i =
-    (i ≤ n) × (firstOf (λ d. present d (postings used table)) Answer.Present (destinations (changes list)) ≡ firstOf (λ d. present d (postings used table)) Answer.Present (destinationsFrom i (drop i (changes list))))
+    (i ≤ n) ×
+    (firstOf (λ d. present d (postings used table)) Answer.Present (destinations (changes list)) ≡ firstOf
+    (λ d. present d (postings used table)) Answer.Present (destinationsFrom i (drop i (changes list))))
 
 abbrev μ-loop : tie.MeasureT-loop
 μ-loop table used list n i₀ i = n - i
@@ -39,7 +41,9 @@ returns : tie.Need-returns Inv-loop μ-loop
 returns c =
     let at = c .before .before .before .before in
     let read = c .before .before .change-at in
-    sym (at .loop .inv .1 ∙ first-destination _ Answer.Present (changes (at .before .before .before .before .args .list .now)) (at .loop .i) (read .result) true (omega arith) (read .ensures) (sym (c .before .is-present .ensures) ∙ c .if1 .taken))
+    sym
+    (at .loop .inv .1 ∙ first-destination _ Answer.Present (changes (at .before .before .before .before .args .list .now))
+    (at .loop .i) (read .result) true (omega arith) (read .ensures) (sym (c .before .is-present .ensures) ∙ c .if1 .taken))
 
 add-i : tie.Need-add-i Inv-loop μ-loop
 add-i c = search needs
@@ -50,14 +54,20 @@ loop-less c = search needs
 loop-again : tie.Need-loop-again Inv-loop μ-loop
 loop-again c =
     let at = c .before .before .before .before in
-    let read = c .before .before .change-at in
-    (omega arith, at .loop .inv .1 ∙ first-destination _ Answer.Present (changes (at .before .before .before .before .args .list .now)) (at .loop .i) (read .result) false (omega arith) (read .ensures) (sym (c .before .is-present .ensures) ∙ c .if1 .left))
+    let read = c .before .before .change-at in (
+      omega arith,
+      at .loop .inv .1 ∙ first-destination _ Answer.Present
+          (changes (at .before .before .before .before .args .list .now)) (at .loop .i) (read .result) false (omega arith)
+          (read .ensures) (sym (c .before .is-present .ensures) ∙ c .if1 .left),
+    )
 
 returns-2 : tie.Need-returns-2 Inv-loop μ-loop
 returns-2 c =
     let at = c .before in
     let start = at .before .before .before .before in
-    sym (at .loop .inv .1 ∙ no-destination (λ d. present d (postings (start .args .used) (start .args .table .now))) Answer.Present (changes (start .args .list .now)) (at .loop .i) (omega arith))
+    sym
+    (at .loop .inv .1 ∙ no-destination (λ d. present d (postings (start .args .used) (start .args .table .now)))
+    Answer.Present (changes (start .args .list .now)) (at .loop .i) (omega arith))
 
 pub check-present-spec : {M : Type 1} → statement M
 check-present-spec =

@@ -14,7 +14,8 @@ use Rattle.checks.proofs.check_record.Tie as tie
 
 abbrev Inv-loop : tie.InvT-loop
 Inv-loop list «record» place₀ place =
-    (place ≤ length «record») × Few (length (changes list)) (behind place «record») × (recordFrom 0 (changes list) [] «record» ≡ recordLeft (changes list) «record» place)
+    (place ≤ length «record») × Few (length (changes list)) (behind place «record») ×
+    (recordFrom 0 (changes list) [] «record» ≡ recordLeft (changes list) «record» place)
 
 abbrev μ-loop : tie.MeasureT-loop
 μ-loop list «record» place₀ place = length «record» - place
@@ -43,7 +44,9 @@ returns : tie.Need-returns Inv-loop μ-loop
 returns c =
     let at = c .before .before .before .before .before .before in
     let start = at .before .before .before in
-    sym (at .loop .inv .2 ∙ record-repeats (changes (start .args .list .now)) (start .args .«record» .now) (at .loop .place) (omega arith) (sym (c .before .stands-earlier .ensures) ∙ c .if2 .taken))
+    sym
+    (at .loop .inv .2 ∙ record-repeats (changes (start .args .list .now)) (start .args .«record» .now) (at .loop .place)
+    (omega arith) (sym (c .before .stands-earlier .ensures) ∙ c .if2 .taken))
 
 add-place : tie.Need-add-place Inv-loop μ-loop
 add-place c = search needs
@@ -58,8 +61,10 @@ loop-again c =
     let means = sym (c .before .before .before .is-recordable .ensures) ∙ c .before .before .if1 .taken in
     let new = sym (c .before .stands-earlier .ensures) ∙ c .if2 .left in (
       omega arith,
-      record-more (changes (start .args .list .now)) (start .args .«record» .now) (at .loop .place) (omega arith) means new (at .loop .inv .1),
-      at .loop .inv .2 ∙ record-passes (changes (start .args .list .now)) (start .args .«record» .now) (at .loop .place) (omega arith) means new,
+      record-more (changes (start .args .list .now)) (start .args .«record» .now) (at .loop .place) (omega arith) means new
+          (at .loop .inv .1),
+      at .loop .inv .2 ∙ record-passes (changes (start .args .list .now)) (start .args .«record» .now) (at .loop .place)
+          (omega arith) means new,
     )
 
 cast-t13 : tie.Need-cast-t13 Inv-loop μ-loop
@@ -71,13 +76,17 @@ returns-2 : tie.Need-returns-2 Inv-loop μ-loop
 returns-2 c =
     let at = c .before .before .before .before in
     let start = at .before .before .before in
-    sym (at .loop .inv .2 ∙ record-means-nothing (changes (start .args .list .now)) (start .args .«record» .now) (at .loop .place) (omega arith) (sym (c .before .is-recordable .ensures) ∙ c .if1 .left))
+    sym
+    (at .loop .inv .2 ∙ record-means-nothing (changes (start .args .list .now)) (start .args .«record» .now)
+    (at .loop .place) (omega arith) (sym (c .before .is-recordable .ensures) ∙ c .if1 .left))
 
 returns-3 : tie.Need-returns-3 Inv-loop μ-loop
 returns-3 c =
     let at = c .before in
     let start = at .before .before .before in
-    sym (at .loop .inv .2 ∙ record-none (changes (start .args .list .now)) (start .args .«record» .now) (at .loop .place) (omega arith))
+    sym
+    (at .loop .inv .2 ∙ record-none (changes (start .args .list .now)) (start .args .«record» .now) (at .loop .place)
+    (omega arith))
 
 pub check-record-spec : {M : Type 1} → statement M
 check-record-spec =

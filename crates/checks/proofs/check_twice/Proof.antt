@@ -44,8 +44,12 @@ loop-less c = search needs
 loop-again : tie.Need-loop-again Inv-loop μ-loop Inv-pairs μ-pairs
 loop-again c =
     let inner = c .before .before .before in
-    let outer = inner .before .before in
-    (omega arith, inner .loop .inv .1 ∙ seek-further (changes (outer .before .before .before .args .list .now)) (outer .pairs .j) (omega arith) (inner .loop .i) (omega arith) (sym (c .before .one-destination .ensures) ∙ c .if1 .left))
+    let outer = inner .before .before in (
+      omega arith,
+      inner .loop .inv .1 ∙ seek-further (changes (outer .before .before .before .args .list .now))
+          (outer .pairs .j) (omega arith) (inner .loop .i) (omega arith)
+          (sym (c .before .one-destination .ensures) ∙ c .if1 .left),
+    )
 
 add-j : tie.Need-add-j Inv-loop μ-loop Inv-pairs μ-pairs
 add-j c = search needs
@@ -56,8 +60,11 @@ pairs-less c = search needs
 pairs-again : tie.Need-pairs-again Inv-loop μ-loop Inv-pairs μ-pairs
 pairs-again c =
     let inner = c .before in
-    let outer = inner .before .before in
-    (omega arith, outer .pairs .inv .1 ∙ pairs-further (changes (outer .before .before .before .args .list .now)) (outer .pairs .j) (omega arith) (inner .loop .i) (inner .loop .inv .1) (omega arith))
+    let outer = inner .before .before in (
+      omega arith,
+      outer .pairs .inv .1 ∙ pairs-further (changes (outer .before .before .before .args .list .now))
+          (outer .pairs .j) (omega arith) (inner .loop .i) (inner .loop .inv .1) (omega arith),
+    )
 
 cast-earlier : tie.Need-cast-earlier Inv-loop μ-loop Inv-pairs μ-pairs
 cast-earlier c = ⊎-elim (λ w. absurd (omega arith)) (λ w. omega arith) (c .before .before .pairs-test .came)
@@ -77,7 +84,9 @@ returns c =
 returns-2 : tie.Need-returns-2 Inv-loop μ-loop Inv-pairs μ-pairs
 returns-2 c =
     let outer = c .before .before in
-    sym (outer .pairs .inv .1 ∙ pairs-none (changes (outer .before .before .before .args .list .now)) (outer .pairs .j) (omega arith))
+    sym
+    (outer .pairs .inv .1 ∙ pairs-none (changes (outer .before .before .before .args .list .now)) (outer .pairs .j)
+    (omega arith))
 
 pub check-twice-spec : {M : Type 1} → statement M
 check-twice-spec =

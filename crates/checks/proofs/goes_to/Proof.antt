@@ -17,7 +17,12 @@ enum-told : tie.Need-enum-told
 enum-told c = search needs
 
 returns : tie.Need-returns
-returns c = rw (← c .before .before .before .change-at .ensures, sym (c .before .before .destination-of .ensures) ∙ c .enum-told .given .1)
+returns c =
+    rw (
+      ← c .before .before .before .change-at .ensures,
+      sym (c .before .before .destination-of .ensures) ∙ c .enum-told .given
+          .1,
+    )
 
 posting-of-requires : tie.Need-posting-of-requires
 posting-of-requires c κs = search needs
@@ -26,7 +31,15 @@ equal-requires : tie.Need-equal-requires
 equal-requires c κs = search needs
 
 returns-2 : tie.Need-returns-2
-returns-2 c = rw (← c .before .before .before .before .before .before .change-at .ensures, sym (c .before .before .before .before .before .destination-of .ensures) ∙ c .before .before .before .key .given .1, ← c .before .posting-of .ensures) (c .equal .ensures)
+returns-2 c =
+    rw (
+      ← c .before .before .before .before .before .before .change-at .ensures,
+      sym
+          (c .before .before .before .before .before .destination-of .ensures) ∙ c .before .before .before .key .given .1,
+      ← c
+          .before .posting-of .ensures,
+    )
+    (c .equal .ensures)
 
 pub goes-to-spec : {M : Type 1} → statement M
 goes-to-spec =

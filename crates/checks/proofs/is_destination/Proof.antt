@@ -13,7 +13,9 @@ use Rattle.checks.proofs.is_destination.Tie as tie
 
 abbrev Inv-loop : tie.InvT-loop
 Inv-loop list p n i₀ i =
-    (i ≤ n) × (present p (postingsOf (destinations (changes list))) ≡ present p (postingsOf (destinationsFrom i (drop i (changes list)))))
+    (i ≤ n) ×
+    (present p (postingsOf (destinations (changes list))) ≡ present p
+    (postingsOf (destinationsFrom i (drop i (changes list)))))
 
 abbrev μ-loop : tie.MeasureT-loop
 μ-loop list p n i₀ i = n - i
@@ -30,7 +32,9 @@ goes-to-requires c κs = search needs
 returns : tie.Need-returns Inv-loop μ-loop
 returns c =
     let at = c .before .before .before in
-    sym (at .loop .inv .1 ∙ present-left _ (changes (at .before .before .before .args .list .now)) (at .loop .i) true (omega arith) (sym (c .before .goes-to .ensures) ∙ c .if1 .taken))
+    sym
+    (at .loop .inv .1 ∙ present-left _ (changes (at .before .before .before .args .list .now)) (at .loop .i) true
+    (omega arith) (sym (c .before .goes-to .ensures) ∙ c .if1 .taken))
 
 add-i : tie.Need-add-i Inv-loop μ-loop
 add-i c = search needs
@@ -40,8 +44,11 @@ loop-less c = search needs
 
 loop-again : tie.Need-loop-again Inv-loop μ-loop
 loop-again c =
-    let at = c .before .before .before in
-    (omega arith, at .loop .inv .1 ∙ present-left _ (changes (at .before .before .before .args .list .now)) (at .loop .i) false (omega arith) (sym (c .before .goes-to .ensures) ∙ c .if1 .left))
+    let at = c .before .before .before in (
+      omega arith,
+      at .loop .inv .1 ∙ present-left _ (changes (at .before .before .before .args .list .now)) (at .loop .i)
+          false (omega arith) (sym (c .before .goes-to .ensures) ∙ c .if1 .left),
+    )
 
 returns-2 : tie.Need-returns-2 Inv-loop μ-loop
 returns-2 c =

@@ -44,7 +44,9 @@ shared-slice-read-if2 c = search needs
 returns : tie.Need-returns Inv-loop μ-loop
 returns c =
     let at = c .before .before .before .before .before in
-    sym (at .loop .inv .1 ∙ held-here _ _ (at .before .args .pairs .now) (at .loop .i) (omega arith) (c .before .before .if1 .taken) (eqb-true _ _ (c .if2 .taken)))
+    sym
+    (at .loop .inv .1 ∙ held-here _ _ (at .before .args .pairs .now) (at .loop .i) (omega arith)
+    (c .before .before .if1 .taken) (eqb-true _ _ (c .if2 .taken)))
 
 add-i : tie.Need-add-i Inv-loop μ-loop
 add-i c = search needs
@@ -54,8 +56,11 @@ loop-less c = search needs
 
 loop-again : tie.Need-loop-again Inv-loop μ-loop
 loop-again c =
-    let at = c .before .before .before in
-    (omega arith, at .loop .inv .1 ∙ held-further _ _ (at .before .args .pairs .now) (at .loop .i) (omega arith) (⊎-elim (λ w. inr (eqb-false _ _ (w .2 .left))) (λ w. inl (w .left)) (c .if1 .came)))
+    let at = c .before .before .before in (
+      omega arith,
+      at .loop .inv .1 ∙ held-further _ _ (at .before .args .pairs .now) (at .loop .i) (omega arith)
+          (⊎-elim (λ w. inr (eqb-false _ _ (w .2 .left))) (λ w. inl (w .left)) (c .if1 .came)),
+    )
 
 returns-2 : tie.Need-returns-2 Inv-loop μ-loop
 returns-2 c =

@@ -23,7 +23,13 @@ stands-requires : tie.Need-stands-requires
 stands-requires c κs = search needs
 
 returns-2 : tie.Need-returns-2
-returns-2 c = rw (sym (c .before .before .before .before .before .destination-of .ensures) ∙ c .before .before .before .key .given .1, ← c .before .posting-of .ensures) (c .stands .ensures)
+returns-2 c =
+    rw (
+      sym (c .before .before .before .before .before .destination-of .ensures) ∙ c .before .before .before .key .given .1,
+      ← c
+          .before .posting-of .ensures,
+    )
+    (c .stands .ensures)
 
 pub is-present-spec : {M : Type 1} → statement M
 is-present-spec =

@@ -19,7 +19,9 @@ has-destination-requires c κs = search needs
 returns : tie.Need-returns
 returns c =
     let start = c .before .before .before .before .before in
-    c .has-destination .ensures ∙ sym (recordable-there (changes (start .args .list .now)) (start .args .number) (c .before .change-at .result) (omega arith) (c .before .change-at .ensures))
+    c .has-destination .ensures ∙ sym
+    (recordable-there (changes (start .args .list .now)) (start .args .number) (c .before .change-at .result) (omega arith)
+    (c .before .change-at .ensures))
 
 returns-2 : tie.Need-returns-2
 returns-2 c =

@@ -23,7 +23,13 @@ is-destination-requires : tie.Need-is-destination-requires
 is-destination-requires c κs = search needs
 
 returns-2 : tie.Need-returns-2
-returns-2 c = rw (sym (c .before .before .before .before .before .source-of .ensures) ∙ c .before .before .before .key .given .1, ← c .before .posting-of .ensures) (c .is-destination .ensures)
+returns-2 c =
+    rw (
+      sym (c .before .before .before .before .before .source-of .ensures) ∙ c .before .before .before .key .given .1,
+      ← c
+          .before .posting-of .ensures,
+    )
+    (c .is-destination .ensures)
 
 pub overlaps-spec : {M : Type 1} → statement M
 overlaps-spec =

@@ -35,14 +35,18 @@ loop-again : tie.Need-loop-again Inv-loop μ-loop
 loop-again c =
     let at = c .before .before .before in
     let h : at .loop .first + 6 ≤ length (at .before .before .before .args .list .now) = omega arith in
-    let e = at .loop .inv .2 ∙ proper-left (at .before .before .before .args .list .now) (at .loop .first) true h (sym (c .before .proper-keys .ensures) ∙ c .if2 .taken) in
+    let e =
+    at .loop .inv .2 ∙ proper-left (at .before .before .before .args .list .now) (at .loop .first) true h
+    (sym (c .before .proper-keys .ensures) ∙ c .if2 .taken) in
     (omega arith, omega arith, e)
 
 returns-2 : tie.Need-returns-2 Inv-loop μ-loop
 returns-2 c =
     let at = c .before .before .before in
     let h : at .loop .first + 6 ≤ length (at .before .before .before .args .list .now) = omega arith in
-    sym (at .loop .inv .2 ∙ proper-left (at .before .before .before .args .list .now) (at .loop .first) false h (sym (c .before .proper-keys .ensures) ∙ c .if2 .left))
+    sym
+    (at .loop .inv .2 ∙ proper-left (at .before .before .before .args .list .now) (at .loop .first) false h
+    (sym (c .before .proper-keys .ensures) ∙ c .if2 .left))
 
 returns-3 : tie.Need-returns-3 Inv-loop μ-loop
 returns-3 c =

@@ -47,7 +47,9 @@ proper-key-requires-2 : tie.Need-proper-key-requires-2
 proper-key-requires-2 c κs = search needs
 
 returns : tie.Need-returns
-returns c = rw (sym (c .before .before .before .before .proper-key .ensures) ∙ c .before .before .before .if1 .taken) (c .proper-key2 .ensures)
+returns c =
+    rw (sym (c .before .before .before .before .proper-key .ensures) ∙ c .before .before .before .if1 .taken)
+    (c .proper-key2 .ensures)
 
 returns-2 : tie.Need-returns-2
 returns-2 c = rw (sym (c .before .proper-key .ensures) ∙ c .if1 .left)

@@ -30,7 +30,8 @@ proper-changes-requires c κs = search needs
 returns-4 : tie.Need-returns-4
 returns-4 c =
     let start = c .before .before .before .before .before .before .before in
-    c .proper-changes .ensures ∙ sym (lists-within (start .args .list .now) (start .args .pairs .now) (omega arith) (omega arith) (omega arith))
+    c .proper-changes .ensures ∙ sym
+    (lists-within (start .args .list .now) (start .args .pairs .now) (omega arith) (omega arith) (omega arith))
 
 pub proper-lists-spec : {M : Type 1} → statement M
 proper-lists-spec =

@@ -32,7 +32,9 @@ shared-slice-read-if2 c = search needs
 returns-2 : tie.Need-returns-2 Inv-loop μ-loop
 returns-2 c =
     let at = c .before .before .before in
-    sym (at .loop .inv .1 ∙ every-left _ 0 (at .before .before .args .strip .now) (at .loop .i) false (c .before .before .loop-test .taken) (lt-leb _ _ (c .if2 .taken)))
+    sym
+    (at .loop .inv .1 ∙ every-left _ 0 (at .before .before .args .strip .now) (at .loop .i) false
+    (c .before .before .loop-test .taken) (lt-leb _ _ (c .if2 .taken)))
 
 add-i : tie.Need-add-i Inv-loop μ-loop
 add-i c = search needs
@@ -42,8 +44,11 @@ loop-less c = search needs
 
 loop-again : tie.Need-loop-again Inv-loop μ-loop
 loop-again c =
-    let at = c .before .before .before in
-    (omega arith, at .loop .inv .1 ∙ every-left _ 0 (at .before .before .args .strip .now) (at .loop .i) true (c .before .before .loop-test .taken) (le-leb _ _ (c .if2 .left)))
+    let at = c .before .before .before in (
+      omega arith,
+      at .loop .inv .1 ∙ every-left _ 0 (at .before .before .args .strip .now) (at .loop .i) true
+          (c .before .before .loop-test .taken) (le-leb _ _ (c .if2 .left)),
+    )
 
 returns-3 : tie.Need-returns-3 Inv-loop μ-loop
 returns-3 c =

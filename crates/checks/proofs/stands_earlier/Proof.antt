@@ -12,7 +12,8 @@ use Rattle.checks.proofs.stands_earlier.Statement.{statement}
 use Rattle.checks.proofs.stands_earlier.Tie as tie
 
 abbrev Inv-loop : tie.InvT-loop
-Inv-loop «record» place number i₀ i = (i ≤ place) × (among number (take place «record») ≡ among number (drop i (take place «record»)))
+Inv-loop «record» place number i₀ i =
+    (i ≤ place) × (among number (take place «record») ≡ among number (drop i (take place «record»)))
 
 abbrev μ-loop : tie.MeasureT-loop
 μ-loop «record» place number i₀ i = place - i
@@ -29,7 +30,9 @@ shared-slice-read-if1 c = search needs
 returns : tie.Need-returns Inv-loop μ-loop
 returns c =
     let at = c .before .before .before in
-    sym (at .loop .inv .1 ∙ among-left _ (at .before .args .«record» .now) _ (at .before .pre) (at .loop .i) true (c .before .before .loop-test .taken) (eq-eqb _ _ (sym (c .if1 .taken))))
+    sym
+    (at .loop .inv .1 ∙ among-left _ (at .before .args .«record» .now) _ (at .before .pre) (at .loop .i) true
+    (c .before .before .loop-test .taken) (eq-eqb _ _ (sym (c .if1 .taken))))
 
 add-i : tie.Need-add-i Inv-loop μ-loop
 add-i c = search needs
@@ -39,13 +42,17 @@ loop-less c = search needs
 
 loop-again : tie.Need-loop-again Inv-loop μ-loop
 loop-again c =
-    let at = c .before .before .before in
-    (omega arith, at .loop .inv .1 ∙ among-left _ (at .before .args .«record» .now) _ (at .before .pre) (at .loop .i) false (c .before .before .loop-test .taken) (ne-eqb _ _ (λ e. c .if1 .left (sym e))))
+    let at = c .before .before .before in (
+      omega arith,
+      at .loop .inv .1 ∙ among-left _ (at .before .args .«record» .now) _ (at .before .pre) (at .loop .i) false
+          (c .before .before .loop-test .taken) (ne-eqb _ _ (λ e. c .if1 .left (sym e))),
+    )
 
 returns-2 : tie.Need-returns-2 Inv-loop μ-loop
 returns-2 c =
     let at = c .before in
-    sym (at .loop .inv .1 ∙ among-none _ (at .before .args .«record» .now) _ (at .before .pre) (at .loop .i) (c .loop-test .left))
+    sym
+    (at .loop .inv .1 ∙ among-none _ (at .before .args .«record» .now) _ (at .before .pre) (at .loop .i) (c .loop-test .left))
 
 pub stands-earlier-spec : {M : Type 1} → statement M
 stands-earlier-spec =

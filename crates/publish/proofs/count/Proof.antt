@@ -25,7 +25,8 @@ returns c = rw (sym (c .before .before .before .of-count .ensures) ∙ c .before
 
 returns-2 : tie.Need-returns-2
 unfolding countOf
-returns-2 c = rw (sym (c .before .before .before .of-count .ensures) ∙ c .before .enum-told .given .1) (ap toldOf (c .count .ensures))
+returns-2 c =
+    rw (sym (c .before .before .before .of-count .ensures) ∙ c .before .enum-told .given .1) (ap toldOf (c .count .ensures))
 
 pub count-spec : {M : Type 1} → statement M
 count-spec =

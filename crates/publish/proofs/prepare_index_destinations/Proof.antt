@@ -18,7 +18,9 @@ enum-told : tie.Need-enum-told
 enum-told c = search needs
 
 prepare-requires : tie.Need-prepare-requires
-prepare-requires c κs = let p = (sym (c .before .before .before .before .of-prepare .ensures) ∙ c .before .before .enum-told .given .1) in (prepare-clear _ _ _ p .formed, (prepare-few _ _ _ _ _ _ p, prepare-clear _ _ _ p .places))
+prepare-requires c κs =
+    let p = (sym (c .before .before .before .before .of-prepare .ensures) ∙ c .before .before .enum-told .given .1) in
+    (prepare-clear _ _ _ p .formed, (prepare-few _ _ _ _ _ _ p, prepare-clear _ _ _ p .places))
 
 same-length : tie.Need-same-length
 same-length c = search needs
@@ -38,7 +40,11 @@ same-length-4 c = search needs
 
 returns-2 : tie.Need-returns-2
 unfolding prepareOf
-returns-2 c = rw (sym (c .before .before .before .before .before .before .before .before .before .of-prepare .ensures) ∙ c .before .before .before .before .before .before .before .enum-told .given .1) (ap seenOf (c .before .before .before .before .prepare .ensures))
+returns-2 c =
+    rw
+    (sym (c .before .before .before .before .before .before .before .before .before .of-prepare .ensures) ∙ c .before .before
+    .before .before .before .before .before .enum-told .given .1)
+    (ap seenOf (c .before .before .before .before .prepare .ensures))
 
 pub prepare-index-destinations-spec : {M : Type 1} → statement M
 prepare-index-destinations-spec =

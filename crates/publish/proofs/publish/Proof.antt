@@ -18,7 +18,9 @@ enum-told : tie.Need-enum-told
 enum-told c = search needs
 
 publish-requires : tie.Need-publish-requires
-publish-requires c κs = let p = (sym (c .before .before .before .before .of-publish .ensures) ∙ c .before .before .enum-told .given .1) in (publish-clear _ _ _ p .formed, (publish-few _ _ _ _ _ _ p, publish-clear _ _ _ p .places))
+publish-requires c κs =
+    let p = (sym (c .before .before .before .before .of-publish .ensures) ∙ c .before .before .enum-told .given .1) in
+    (publish-clear _ _ _ p .formed, (publish-few _ _ _ _ _ _ p, publish-clear _ _ _ p .places))
 
 same-length : tie.Need-same-length
 same-length c = search needs
@@ -38,7 +40,11 @@ same-length-4 c = search needs
 
 returns-2 : tie.Need-returns-2
 unfolding publishOf
-returns-2 c = rw (sym (c .before .before .before .before .before .before .before .before .before .of-publish .ensures) ∙ c .before .before .before .before .before .before .before .enum-told .given .1) (ap seenOf (c .before .before .before .before .publish .ensures))
+returns-2 c =
+    rw
+    (sym (c .before .before .before .before .before .before .before .before .before .of-publish .ensures) ∙ c .before .before
+    .before .before .before .before .before .enum-told .given .1)
+    (ap seenOf (c .before .before .before .before .publish .ensures))
 
 pub publish-spec : {M : Type 1} → statement M
 publish-spec =

@@ -18,7 +18,9 @@ enum-told : tie.Need-enum-told
 enum-told c = search needs
 
 remove-requires : tie.Need-remove-requires
-remove-requires c κs = let p = (sym (c .before .before .before .of-removal .ensures) ∙ c .before .enum-told .given .1) in (removal-formed _ _ _ p .0, removal-few _ _ _ _ _ _ p)
+remove-requires c κs =
+    let p = (sym (c .before .before .before .of-removal .ensures) ∙ c .before .enum-told .given .1) in
+    (removal-formed _ _ _ p .0, removal-few _ _ _ _ _ _ p)
 
 same-length : tie.Need-same-length
 same-length c = search needs
@@ -32,7 +34,11 @@ same-length-2 c = search needs
 
 returns-2 : tie.Need-returns-2
 unfolding removalOf
-returns-2 c = rw (sym (c .before .before .before .before .before .before .of-removal .ensures) ∙ c .before .before .before .before .enum-told .given .1) (ap seenOf (c .before .before .remove .ensures))
+returns-2 c =
+    rw
+    (sym (c .before .before .before .before .before .before .of-removal .ensures) ∙ c .before .before .before .before
+    .enum-told .given .1)
+    (ap seenOf (c .before .before .remove .ensures))
 
 pub remove-index-sources-spec : {M : Type 1} → statement M
 remove-index-sources-spec =

@@ -18,7 +18,9 @@ enum-told : tie.Need-enum-told
 enum-told c = search needs
 
 rollback-requires : tie.Need-rollback-requires
-rollback-requires c κs = let p = (sym (c .before .before .before .of-rollback .ensures) ∙ c .before .enum-told .given .1) in (rollback-formed _ _ _ p .0, (rollback-few _ _ _ _ _ _ p, rollback-below _ _ _ _ _ _ p))
+rollback-requires c κs =
+    let p = (sym (c .before .before .before .of-rollback .ensures) ∙ c .before .enum-told .given .1) in
+    (rollback-formed _ _ _ p .0, (rollback-few _ _ _ _ _ _ p, rollback-below _ _ _ _ _ _ p))
 
 same-length : tie.Need-same-length
 same-length c = search needs
@@ -32,7 +34,11 @@ same-length-2 c = search needs
 
 returns-2 : tie.Need-returns-2
 unfolding rollbackOf
-returns-2 c = rw (sym (c .before .before .before .before .before .before .of-rollback .ensures) ∙ c .before .before .before .before .enum-told .given .1) (ap seenOf (c .before .before .rollback .ensures))
+returns-2 c =
+    rw
+    (sym (c .before .before .before .before .before .before .of-rollback .ensures) ∙ c .before .before .before .before
+    .enum-told .given .1)
+    (ap seenOf (c .before .before .rollback .ensures))
 
 pub rollback-index-destinations-spec : {M : Type 1} → statement M
 rollback-index-destinations-spec =

@@ -19,13 +19,26 @@ enum-told-2 : tie.Need-enum-told-2
 enum-told-2 c = search needs
 
 returns : tie.Need-returns
-returns c = ends _ (c .before .before .of-table .ensures) (c .enum-told2 .given .1) ∙ sym (count-parts (c .before .before .before .before .args .head) (c .before .before .before .before .args .table .now) (c .before .before .before .before .args .binding))
+returns c =
+    ends _ (c .before .before .of-table .ensures) (c .enum-told2 .given .1) ∙ sym
+    (count-parts (c .before .before .before .before .args .head) (c .before .before .before .before .args .table .now)
+    (c .before .before .before .before .args .binding))
 
 returns-2 : tie.Need-returns-2
-returns-2 c = goes-on (c .before .before .before .before .of-table .ensures) (c .before .before .enum-told .given .1) (sym (ap (λ (b : Bool). must b (Answer.Guard 0)) (lt-ltb _ _ (c .if1 .taken)))) ∙ sym (count-parts (c .before .before .before .before .before .before .args .head) (c .before .before .before .before .before .before .args .table .now) (c .before .before .before .before .before .before .args .binding))
+returns-2 c =
+    goes-on (c .before .before .before .before .of-table .ensures) (c .before .before .enum-told .given .1)
+    (sym (ap (λ (b : Bool). must b (Answer.Guard 0)) (lt-ltb _ _ (c .if1 .taken)))) ∙ sym
+    (count-parts (c .before .before .before .before .before .before .args .head)
+    (c .before .before .before .before .before .before .args .table .now)
+    (c .before .before .before .before .before .before .args .binding))
 
 returns-3 : tie.Need-returns-3
-returns-3 c = goes-on (c .before .before .before .before .of-table .ensures) (c .before .before .enum-told .given .1) (sym (ap (λ (b : Bool). must b (Answer.Guard 0)) (le-ltb _ _ (c .if1 .left)))) ∙ sym (count-parts (c .before .before .before .before .before .before .args .head) (c .before .before .before .before .before .before .args .table .now) (c .before .before .before .before .before .before .args .binding))
+returns-3 c =
+    goes-on (c .before .before .before .before .of-table .ensures) (c .before .before .enum-told .given .1)
+    (sym (ap (λ (b : Bool). must b (Answer.Guard 0)) (le-ltb _ _ (c .if1 .left)))) ∙ sym
+    (count-parts (c .before .before .before .before .before .before .args .head)
+    (c .before .before .before .before .before .before .args .table .now)
+    (c .before .before .before .before .before .before .args .binding))
 
 pub of-count-spec : {M : Type 1} → statement M
 of-count-spec =

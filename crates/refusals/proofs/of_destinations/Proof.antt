@@ -18,7 +18,12 @@ enum-told-2 c = search needs
 
 returns : tie.Need-returns
 unfolding guardCheck
-returns c = ends _ (c .before .before .check-guards .ensures) (c .enum-told2 .given .1) ∙ sym (destinations-parts (c .before .before .before .before .before .before .args .head) (c .before .before .before .before .before .before .args .table .now) (c .before .before .before .before .before .before .args .list .now) (c .before .before .before .before .before .before .args .pairs .now))
+returns c =
+    ends _ (c .before .before .check-guards .ensures) (c .enum-told2 .given .1) ∙ sym
+    (destinations-parts (c .before .before .before .before .before .before .args .head)
+    (c .before .before .before .before .before .before .args .table .now)
+    (c .before .before .before .before .before .before .args .list .now)
+    (c .before .before .before .before .before .before .args .pairs .now))
 
 check-twice-requires : tie.Need-check-twice-requires
 check-twice-requires c κs = c .before .before .before .before .before .before .pre .1
@@ -31,17 +36,38 @@ enum-told-4 c = search needs
 
 returns-2 : tie.Need-returns-2
 unfolding guardCheck twiceCheck
-returns-2 c = goes-on (c .before .before .before .before .before .check-guards .ensures) (c .before .before .before .enum-told .given .1) (ends _ (c .before .before .check-twice .ensures) (c .enum-told4 .given .1)) ∙ sym (destinations-parts (c .before .before .before .before .before .before .before .before .before .args .head) (c .before .before .before .before .before .before .before .before .before .args .table .now) (c .before .before .before .before .before .before .before .before .before .args .list .now) (c .before .before .before .before .before .before .before .before .before .args .pairs .now))
+returns-2 c =
+    goes-on (c .before .before .before .before .before .check-guards .ensures)
+    (c .before .before .before .enum-told .given .1)
+    (ends _ (c .before .before .check-twice .ensures) (c .enum-told4 .given .1)) ∙ sym
+    (destinations-parts (c .before .before .before .before .before .before .before .before .before .args .head)
+    (c .before .before .before .before .before .before .before .before .before .args .table .now)
+    (c .before .before .before .before .before .before .before .before .before .args .list .now)
+    (c .before .before .before .before .before .before .before .before .before .args .pairs .now))
 
 cast-check-present : tie.Need-cast-check-present
 cast-check-present c = search needs
 
 check-present-requires : tie.Need-check-present-requires
-check-present-requires c κs = (well-formed-held _ _ (c .before .before .before .before .before .before .before .before .before .before .pre .0), c .before .before .before .before .before .before .before .before .before .before .pre .1)
+check-present-requires c κs = (
+  well-formed-held _ _ (c .before .before .before .before .before .before .before .before .before .before .pre .0),
+  c
+      .before .before .before .before .before .before .before .before .before .before .pre .1,
+)
 
 returns-3 : tie.Need-returns-3
 unfolding guardCheck twiceCheck presentCheck
-returns-3 c = goes-on (c .before .before .before .before .before .before .before .check-guards .ensures) (c .before .before .before .before .before .enum-told .given .1) (goes-on (c .before .before .before .before .check-twice .ensures) (c .before .before .enum-told3 .given .1) (c .check-present .ensures)) ∙ sym (destinations-parts (c .before .before .before .before .before .before .before .before .before .before .before .args .head) (c .before .before .before .before .before .before .before .before .before .before .before .args .table .now) (c .before .before .before .before .before .before .before .before .before .before .before .args .list .now) (c .before .before .before .before .before .before .before .before .before .before .before .args .pairs .now))
+returns-3 c =
+    goes-on (c .before .before .before .before .before .before .before .check-guards .ensures)
+    (c .before .before .before .before .before .enum-told .given .1)
+    (goes-on (c .before .before .before .before .check-twice .ensures) (c .before .before .enum-told3 .given .1)
+    (c .check-present .ensures))
+    ∙ sym
+    (destinations-parts
+    (c .before .before .before .before .before .before .before .before .before .before .before .args .head)
+    (c .before .before .before .before .before .before .before .before .before .before .before .args .table .now)
+    (c .before .before .before .before .before .before .before .before .before .before .before .args .list .now)
+    (c .before .before .before .before .before .before .before .before .before .before .before .args .pairs .now))
 
 pub of-destinations-spec : {M : Type 1} → statement M
 of-destinations-spec =

@@ -13,11 +13,21 @@ proper-strip-requires c κs = search needs
 
 returns : tie.Need-returns
 unfolding listCheck stripCheck firstRefusal
-returns c = rw (sym (c .before .before .before .proper-lists .ensures) ∙ c .before .before .if1 .taken, sym (c .before .proper-strip .ensures) ∙ c .if2 .taken)
+returns c =
+    rw (
+      sym (c .before .before .before .proper-lists .ensures) ∙ c .before .before .if1 .taken,
+      sym
+          (c .before .proper-strip .ensures) ∙ c .if2 .taken,
+    )
 
 returns-2 : tie.Need-returns-2
 unfolding listCheck stripCheck firstRefusal
-returns-2 c = rw (sym (c .before .before .before .proper-lists .ensures) ∙ c .before .before .if1 .taken, sym (c .before .proper-strip .ensures) ∙ c .if2 .left)
+returns-2 c =
+    rw (
+      sym (c .before .before .before .proper-lists .ensures) ∙ c .before .before .if1 .taken,
+      sym
+          (c .before .proper-strip .ensures) ∙ c .if2 .left,
+    )
 
 returns-3 : tie.Need-returns-3
 unfolding listCheck stripCheck firstRefusal

@@ -15,7 +15,14 @@ enum-told-2 : tie.Need-enum-told-2
 enum-told-2 c = search needs
 
 returns : tie.Need-returns
-returns c = ends _ (c .before .before .of-table .ensures) (c .enum-told2 .given .1) ∙ sym (prepare-parts (c .before .before .before .before .before .before .before .before .args .head) (c .before .before .before .before .before .before .before .before .args .table .now) (c .before .before .before .before .before .before .before .before .args .list .now) (c .before .before .before .before .before .before .before .before .args .pairs .now) (c .before .before .before .before .before .before .before .before .args .strip .now) (c .before .before .before .before .before .before .before .before .args .record .now))
+returns c =
+    ends _ (c .before .before .of-table .ensures) (c .enum-told2 .given .1) ∙ sym
+    (prepare-parts (c .before .before .before .before .before .before .before .before .args .head)
+    (c .before .before .before .before .before .before .before .before .args .table .now)
+    (c .before .before .before .before .before .before .before .before .args .list .now)
+    (c .before .before .before .before .before .before .before .before .args .pairs .now)
+    (c .before .before .before .before .before .before .before .before .args .strip .now)
+    (c .before .before .before .before .before .before .before .before .args .record .now))
 
 of-lists-requires : tie.Need-of-lists-requires
 of-lists-requires c κs = search needs
@@ -27,7 +34,15 @@ enum-told-4 : tie.Need-enum-told-4
 enum-told-4 c = search needs
 
 returns-2 : tie.Need-returns-2
-returns-2 c = goes-on (c .before .before .before .before .before .of-table .ensures) (c .before .before .before .enum-told .given .1) (ends _ (c .before .before .of-lists .ensures) (c .enum-told4 .given .1)) ∙ sym (prepare-parts (c .before .before .before .before .before .before .before .before .before .before .before .args .head) (c .before .before .before .before .before .before .before .before .before .before .before .args .table .now) (c .before .before .before .before .before .before .before .before .before .before .before .args .list .now) (c .before .before .before .before .before .before .before .before .before .before .before .args .pairs .now) (c .before .before .before .before .before .before .before .before .before .before .before .args .strip .now) (c .before .before .before .before .before .before .before .before .before .before .before .args .record .now))
+returns-2 c =
+    goes-on (c .before .before .before .before .before .of-table .ensures) (c .before .before .before .enum-told .given .1)
+    (ends _ (c .before .before .of-lists .ensures) (c .enum-told4 .given .1)) ∙ sym
+    (prepare-parts (c .before .before .before .before .before .before .before .before .before .before .before .args .head)
+    (c .before .before .before .before .before .before .before .before .before .before .before .args .table .now)
+    (c .before .before .before .before .before .before .before .before .before .before .before .args .list .now)
+    (c .before .before .before .before .before .before .before .before .before .before .before .args .pairs .now)
+    (c .before .before .before .before .before .before .before .before .before .before .before .args .strip .now)
+    (c .before .before .before .before .before .before .before .before .before .before .before .args .record .now))
 
 of-room-requires : tie.Need-of-room-requires
 of-room-requires c κs = search needs
@@ -39,13 +54,55 @@ enum-told-6 : tie.Need-enum-told-6
 enum-told-6 c = search needs
 
 returns-3 : tie.Need-returns-3
-returns-3 c = goes-on (c .before .before .before .before .before .before .before .before .of-table .ensures) (c .before .before .before .before .before .before .enum-told .given .1) (goes-on (c .before .before .before .before .before .of-lists .ensures) (c .before .before .before .enum-told3 .given .1) (ends _ (c .before .before .of-room .ensures) (c .enum-told6 .given .1))) ∙ sym (prepare-parts (c .before .before .before .before .before .before .before .before .before .before .before .before .before .before .args .head) (c .before .before .before .before .before .before .before .before .before .before .before .before .before .before .args .table .now) (c .before .before .before .before .before .before .before .before .before .before .before .before .before .before .args .list .now) (c .before .before .before .before .before .before .before .before .before .before .before .before .before .before .args .pairs .now) (c .before .before .before .before .before .before .before .before .before .before .before .before .before .before .args .strip .now) (c .before .before .before .before .before .before .before .before .before .before .before .before .before .before .args .record .now))
+returns-3 c =
+    goes-on (c .before .before .before .before .before .before .before .before .of-table .ensures)
+    (c .before .before .before .before .before .before .enum-told .given .1)
+    (goes-on (c .before .before .before .before .before .of-lists .ensures) (c .before .before .before .enum-told3 .given .1)
+    (ends _ (c .before .before .of-room .ensures) (c .enum-told6 .given .1)))
+    ∙ sym
+    (prepare-parts
+    (c .before .before .before .before .before .before .before .before .before .before .before .before .before .before .args
+    .head)
+    (c .before .before .before .before .before .before .before .before .before .before .before .before .before .before .args
+    .table .now)
+    (c .before .before .before .before .before .before .before .before .before .before .before .before .before .before .args
+    .list .now)
+    (c .before .before .before .before .before .before .before .before .before .before .before .before .before .before .args
+    .pairs .now)
+    (c .before .before .before .before .before .before .before .before .before .before .before .before .before .before .args
+    .strip .now)
+    (c .before .before .before .before .before .before .before .before .before .before .before .before .before .before .args
+    .record .now))
 
 of-destinations-requires : tie.Need-of-destinations-requires
-of-destinations-requires c κs = (table-formed _ _ (sym (c .before .before .before .before .before .before .before .before .of-table .ensures) ∙ c .before .before .before .before .before .before .enum-told .given .1), lists-few _ _ _ (sym (c .before .before .before .before .before .of-lists .ensures) ∙ c .before .before .before .enum-told3 .given .1))
+of-destinations-requires c κs = (
+  table-formed _ _
+      (sym (c .before .before .before .before .before .before .before .before .of-table .ensures) ∙ c .before .before .before .before .before .before .enum-told .given .1),
+  lists-few _ _ _
+      (sym (c .before .before .before .before .before .of-lists .ensures) ∙ c .before .before .before .enum-told3 .given .1),
+)
 
 returns-4 : tie.Need-returns-4
-returns-4 c = goes-on (c .before .before .before .before .before .before .before .before .before .of-table .ensures) (c .before .before .before .before .before .before .before .enum-told .given .1) (goes-on (c .before .before .before .before .before .before .of-lists .ensures) (c .before .before .before .before .enum-told3 .given .1) (goes-on (c .before .before .before .of-room .ensures) (c .before .enum-told5 .given .1) (c .of-destinations .ensures))) ∙ sym (prepare-parts (c .before .before .before .before .before .before .before .before .before .before .before .before .before .before .before .args .head) (c .before .before .before .before .before .before .before .before .before .before .before .before .before .before .before .args .table .now) (c .before .before .before .before .before .before .before .before .before .before .before .before .before .before .before .args .list .now) (c .before .before .before .before .before .before .before .before .before .before .before .before .before .before .before .args .pairs .now) (c .before .before .before .before .before .before .before .before .before .before .before .before .before .before .before .args .strip .now) (c .before .before .before .before .before .before .before .before .before .before .before .before .before .before .before .args .record .now))
+returns-4 c =
+    goes-on (c .before .before .before .before .before .before .before .before .before .of-table .ensures)
+    (c .before .before .before .before .before .before .before .enum-told .given .1)
+    (goes-on (c .before .before .before .before .before .before .of-lists .ensures)
+    (c .before .before .before .before .enum-told3 .given .1)
+    (goes-on (c .before .before .before .of-room .ensures) (c .before .enum-told5 .given .1) (c .of-destinations .ensures)))
+    ∙ sym
+    (prepare-parts
+    (c .before .before .before .before .before .before .before .before .before .before .before .before .before .before
+    .before .args .head)
+    (c .before .before .before .before .before .before .before .before .before .before .before .before .before .before
+    .before .args .table .now)
+    (c .before .before .before .before .before .before .before .before .before .before .before .before .before .before
+    .before .args .list .now)
+    (c .before .before .before .before .before .before .before .before .before .before .before .before .before .before
+    .before .args .pairs .now)
+    (c .before .before .before .before .before .before .before .before .before .before .before .before .before .before
+    .before .args .strip .now)
+    (c .before .before .before .before .before .before .before .before .before .before .before .before .before .before
+    .before .args .record .now))
 
 pub of-prepare-spec : {M : Type 1} → statement M
 of-prepare-spec =

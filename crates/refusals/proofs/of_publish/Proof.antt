@@ -16,14 +16,29 @@ enum-told-2 : tie.Need-enum-told-2
 enum-told-2 c = search needs
 
 returns : tie.Need-returns
-returns c = ends _ (c .before .before .of-prepare .ensures) (c .enum-told2 .given .1) ∙ sym (publish-parts (c .before .before .before .before .before .before .before .before .args .head) (c .before .before .before .before .before .before .before .before .args .table .now) (c .before .before .before .before .before .before .before .before .args .list .now) (c .before .before .before .before .before .before .before .before .args .pairs .now) (c .before .before .before .before .before .before .before .before .args .strip .now) (c .before .before .before .before .before .before .before .before .args .record .now))
+returns c =
+    ends _ (c .before .before .of-prepare .ensures) (c .enum-told2 .given .1) ∙ sym
+    (publish-parts (c .before .before .before .before .before .before .before .before .args .head)
+    (c .before .before .before .before .before .before .before .before .args .table .now)
+    (c .before .before .before .before .before .before .before .before .args .list .now)
+    (c .before .before .before .before .before .before .before .before .args .pairs .now)
+    (c .before .before .before .before .before .before .before .before .args .strip .now)
+    (c .before .before .before .before .before .before .before .before .args .record .now))
 
 check-overlap-requires : tie.Need-check-overlap-requires
 check-overlap-requires c κs = prepare-few _ _ _ _ _ _ (sym (c .before .before .of-prepare .ensures) ∙ c .enum-told .given .1)
 
 returns-2 : tie.Need-returns-2
 unfolding overlapCheck
-returns-2 c = goes-on (c .before .before .before .of-prepare .ensures) (c .before .enum-told .given .1) (c .check-overlap .ensures) ∙ sym (publish-parts (c .before .before .before .before .before .before .before .before .before .args .head) (c .before .before .before .before .before .before .before .before .before .args .table .now) (c .before .before .before .before .before .before .before .before .before .args .list .now) (c .before .before .before .before .before .before .before .before .before .args .pairs .now) (c .before .before .before .before .before .before .before .before .before .args .strip .now) (c .before .before .before .before .before .before .before .before .before .args .record .now))
+returns-2 c =
+    goes-on (c .before .before .before .of-prepare .ensures) (c .before .enum-told .given .1) (c .check-overlap .ensures) ∙
+    sym
+    (publish-parts (c .before .before .before .before .before .before .before .before .before .args .head)
+    (c .before .before .before .before .before .before .before .before .before .args .table .now)
+    (c .before .before .before .before .before .before .before .before .before .args .list .now)
+    (c .before .before .before .before .before .before .before .before .before .args .pairs .now)
+    (c .before .before .before .before .before .before .before .before .before .args .strip .now)
+    (c .before .before .before .before .before .before .before .before .before .args .record .now))
 
 pub of-publish-spec : {M : Type 1} → statement M
 of-publish-spec =

@@ -17,7 +17,13 @@ enum-told-2 : tie.Need-enum-told-2
 enum-told-2 c = search needs
 
 returns : tie.Need-returns
-returns c = ends _ (c .before .before .of-table .ensures) (c .enum-told2 .given .1) ∙ sym (removal-parts (c .before .before .before .before .before .before .before .args .head) (c .before .before .before .before .before .before .before .args .table .now) (c .before .before .before .before .before .before .before .args .list .now) (c .before .before .before .before .before .before .before .args .pairs .now) (c .before .before .before .before .before .before .before .args .strip .now) [])
+returns c =
+    ends _ (c .before .before .of-table .ensures) (c .enum-told2 .given .1) ∙ sym
+    (removal-parts (c .before .before .before .before .before .before .before .args .head)
+    (c .before .before .before .before .before .before .before .args .table .now)
+    (c .before .before .before .before .before .before .before .args .list .now)
+    (c .before .before .before .before .before .before .before .args .pairs .now)
+    (c .before .before .before .before .before .before .before .args .strip .now) [])
 
 of-lists-requires : tie.Need-of-lists-requires
 of-lists-requires c κs = search needs
@@ -29,14 +35,30 @@ enum-told-4 : tie.Need-enum-told-4
 enum-told-4 c = search needs
 
 returns-2 : tie.Need-returns-2
-returns-2 c = goes-on (c .before .before .before .before .before .of-table .ensures) (c .before .before .before .enum-told .given .1) (ends _ (c .before .before .of-lists .ensures) (c .enum-told4 .given .1)) ∙ sym (removal-parts (c .before .before .before .before .before .before .before .before .before .before .args .head) (c .before .before .before .before .before .before .before .before .before .before .args .table .now) (c .before .before .before .before .before .before .before .before .before .before .args .list .now) (c .before .before .before .before .before .before .before .before .before .before .args .pairs .now) (c .before .before .before .before .before .before .before .before .before .before .args .strip .now) [])
+returns-2 c =
+    goes-on (c .before .before .before .before .before .of-table .ensures) (c .before .before .before .enum-told .given .1)
+    (ends _ (c .before .before .of-lists .ensures) (c .enum-told4 .given .1)) ∙ sym
+    (removal-parts (c .before .before .before .before .before .before .before .before .before .before .args .head)
+    (c .before .before .before .before .before .before .before .before .before .before .args .table .now)
+    (c .before .before .before .before .before .before .before .before .before .before .args .list .now)
+    (c .before .before .before .before .before .before .before .before .before .before .args .pairs .now)
+    (c .before .before .before .before .before .before .before .before .before .before .args .strip .now) [])
 
 check-guards-requires : tie.Need-check-guards-requires
 check-guards-requires c κs = lists-few _ _ _ (sym (c .before .before .of-lists .ensures) ∙ c .enum-told3 .given .1)
 
 returns-3 : tie.Need-returns-3
 unfolding guardCheck
-returns-3 c = goes-on (c .before .before .before .before .before .before .of-table .ensures) (c .before .before .before .before .enum-told .given .1) (goes-on (c .before .before .before .of-lists .ensures) (c .before .enum-told3 .given .1) (c .check-guards .ensures)) ∙ sym (removal-parts (c .before .before .before .before .before .before .before .before .before .before .before .args .head) (c .before .before .before .before .before .before .before .before .before .before .before .args .table .now) (c .before .before .before .before .before .before .before .before .before .before .before .args .list .now) (c .before .before .before .before .before .before .before .before .before .before .before .args .pairs .now) (c .before .before .before .before .before .before .before .before .before .before .before .args .strip .now) [])
+returns-3 c =
+    goes-on (c .before .before .before .before .before .before .of-table .ensures)
+    (c .before .before .before .before .enum-told .given .1)
+    (goes-on (c .before .before .before .of-lists .ensures) (c .before .enum-told3 .given .1) (c .check-guards .ensures)) ∙
+    sym
+    (removal-parts (c .before .before .before .before .before .before .before .before .before .before .before .args .head)
+    (c .before .before .before .before .before .before .before .before .before .before .before .args .table .now)
+    (c .before .before .before .before .before .before .before .before .before .before .before .args .list .now)
+    (c .before .before .before .before .before .before .before .before .before .before .before .args .pairs .now)
+    (c .before .before .before .before .before .before .before .before .before .before .before .args .strip .now) [])
 
 pub of-removal-spec : {M : Type 1} → statement M
 of-removal-spec =

@@ -11,11 +11,13 @@ well-formed-requires c κs = search needs
 
 returns : tie.Need-returns
 unfolding tableCheck poisonCheck firstRefusal
-returns c = rw (sym (c .before .before .before .well-formed .ensures) ∙ c .before .before .if1 .taken, eq-eqb _ _ (c .if2 .taken))
+returns c =
+    rw (sym (c .before .before .before .well-formed .ensures) ∙ c .before .before .if1 .taken, eq-eqb _ _ (c .if2 .taken))
 
 returns-2 : tie.Need-returns-2
 unfolding tableCheck poisonCheck firstRefusal
-returns-2 c = rw (sym (c .before .before .before .well-formed .ensures) ∙ c .before .before .if1 .taken, ne-eqb _ _ (c .if2 .left))
+returns-2 c =
+    rw (sym (c .before .before .before .well-formed .ensures) ∙ c .before .before .if1 .taken, ne-eqb _ _ (c .if2 .left))
 
 returns-3 : tie.Need-returns-3
 unfolding tableCheck poisonCheck firstRefusal

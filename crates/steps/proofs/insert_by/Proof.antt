@@ -14,7 +14,10 @@ same-length : tie.Need-same-length
 same-length c = search needs
 
 returns-2 : tie.Need-returns-2
-returns-2 c = insert-clear _ _ _ _ _ (c .before .before .before .before .before .before .before .pre) _ _ (c .before .before .before .before .before .if1 .left) (c .before .before .before .before .if2 .taken) (c .before .before .insert .ensures)
+returns-2 c =
+    insert-clear _ _ _ _ _ (c .before .before .before .before .before .before .before .pre) _ _
+    (c .before .before .before .before .before .if1 .left) (c .before .before .before .before .if2 .taken)
+    (c .before .before .insert .ensures)
 
 returns-3 : tie.Need-returns-3
 returns-3 c = insert-full _ _ _ _ _ (c .before .before .before .pre) (c .before .if1 .left) (c .if2 .left)

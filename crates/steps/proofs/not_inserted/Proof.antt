@@ -5,7 +5,10 @@ use Rattle.steps.proofs.not_inserted.Statement.{statement}
 use Rattle.steps.proofs.not_inserted.Tie as tie
 
 undo-below-requires : tie.Need-undo-below-requires
-undo-below-requires c κs = (c .before .before .before .before .pre .0, (c .before .before .before .before .pre .1 .0, c .before .before .before .before .pre .1 .1))
+undo-below-requires c κs = (
+  c .before .before .before .before .pre .0,
+  (c .before .before .before .before .pre .1 .0, c .before .before .before .before .pre .1 .1),
+)
 
 enum-told : tie.Need-enum-told
 enum-told c = search needs

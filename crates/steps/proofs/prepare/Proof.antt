@@ -10,7 +10,8 @@ use Rattle.steps.proofs.prepare.Statement.{statement}
 use Rattle.steps.proofs.prepare.Tie as tie
 
 abbrev Inv-loop : tie.InvT-loop
-Inv-loop table₀ list strip used n used₀ read₀ inserted₀ i₀ table used' read inserted i = Preparing (changes list) strip used table₀ table used' read inserted i
+Inv-loop table₀ list strip used n used₀ read₀ inserted₀ i₀ table used' read inserted i =
+    Preparing (changes list) strip used table₀ table used' read inserted i
 
 abbrev μ-loop : tie.MeasureT-loop
 μ-loop table₀ list strip used n used₀ read₀ inserted₀ i₀ table used' read inserted i = n - i
@@ -40,7 +41,10 @@ loop-less : tie.Need-loop-less Inv-loop μ-loop
 loop-less c = search needs
 
 loop-again : tie.Need-loop-again Inv-loop μ-loop
-loop-again c = prepare-pass (c .before .before .before .before .before .loop .inv) (omega arith) _ (c .before .before .before .change-at .ensures) (sym (c .before .before .destination-of .ensures) ∙ c .enum-told .given .1)
+loop-again c =
+    prepare-pass (c .before .before .before .before .before .loop .inv) (omega arith) _
+    (c .before .before .before .change-at .ensures)
+    (sym (c .before .before .destination-of .ensures) ∙ c .enum-told .given .1)
 
 posting-of-requires : tie.Need-posting-of-requires Inv-loop μ-loop
 posting-of-requires c κs = search needs
@@ -52,13 +56,23 @@ insert-by-requires : tie.Need-insert-by-requires Inv-loop μ-loop
 insert-by-requires c κs = c .before .before .before .before .before .before .before .before .before .loop .inv .held
 
 add-read : tie.Need-add-read Inv-loop μ-loop
-add-read c = let f = c .before .before .before .before .before .before .before .before .before .before .before .before .loop .inv .few in let l = c .before .before .before .before .before .before .before .before .before .before .before .before .loop .inv .low in omega arith
+add-read c =
+    let f = c .before .before .before .before .before .before .before .before .before .before .before .before .loop .inv
+    .few in
+    let l = c .before .before .before .before .before .before .before .before .before .before .before .before .loop .inv
+    .low in
+    omega arith
 
 enum-told-2 : tie.Need-enum-told-2 Inv-loop μ-loop
 enum-told-2 c = search needs
 
 add-inserted : tie.Need-add-inserted Inv-loop μ-loop
-add-inserted c = let s = c .before .before .before .before .before .before .before .before .before .before .before .before .before .before .loop .inv .some in let l = c .before .before .before .before .before .before .before .before .before .before .before .before .before .before .loop .inv .low in omega arith
+add-inserted c =
+    let s = c .before .before .before .before .before .before .before .before .before .before .before .before .before
+    .before .loop .inv .some in
+    let l = c .before .before .before .before .before .before .before .before .before .before .before .before .before
+    .before .loop .inv .low in
+    omega arith
 
 add-i-2 : tie.Need-add-i-2 Inv-loop μ-loop
 add-i-2 c = search needs
@@ -67,7 +81,26 @@ loop-less-2 : tie.Need-loop-less-2 Inv-loop μ-loop
 loop-less-2 c = search needs
 
 loop-again-2 : tie.Need-loop-again-2 Inv-loop μ-loop
-loop-again-2 c = prepare-clear (c .before .before .before .before .before .before .before .before .before .before .before .before .before .before .loop .inv) (omega (arith, c .before .before .before .before .before .before .before .before .before .before .before .before .before .loop-test .taken, c .before .before .before .before .before .before .before .before .before .before .before .before .before .before .before .count-of .ensures)) _ (c .before .before .before .before .before .before .before .before .before .before .before .before .change-at .ensures) _ _ _ _ (sym (c .before .before .before .before .before .before .before .before .before .before .before .destination-of .ensures) ∙ c .before .before .before .before .before .before .before .before .before .key .given .1) (c .before .before .before .before .before .before .byte-at .ensures) (rw (c .before .before .before .before .before .before .before .posting-of .ensures) at (c .before .before .before .before .insert-by .ensures)) (c .enum-told2 .given .1) (c .before .before .before .before .insert-by .kept .1 .0)
+loop-again-2 c =
+    prepare-clear
+    (c .before .before .before .before .before .before .before .before .before .before .before .before .before .before .loop
+    .inv)
+    (omega (
+      arith,
+      c .before .before .before .before .before .before .before .before .before .before .before .before .before
+          .loop-test .taken,
+      c .before .before .before .before .before .before .before .before .before .before .before .before
+          .before .before .before .count-of .ensures,
+    ))
+    _
+    (c .before .before .before .before .before .before .before .before .before .before .before .before .change-at .ensures)
+    _ _ _ _
+    (sym (c .before .before .before .before .before .before .before .before .before .before .before .destination-of .ensures)
+    ∙ c .before .before .before .before .before .before .before .before .before .key .given .1)
+    (c .before .before .before .before .before .before .byte-at .ensures)
+    (rw (c .before .before .before .before .before .before .before .posting-of .ensures) at
+    (c .before .before .before .before .insert-by .ensures))
+    (c .enum-told2 .given .1) (c .before .before .before .before .insert-by .kept .1 .0)
 
 enum-told-3 : tie.Need-enum-told-3 Inv-loop μ-loop
 enum-told-3 c = search needs
@@ -77,15 +110,46 @@ cast-t22 c = search needs
 
 not-inserted-requires : tie.Need-not-inserted-requires Inv-loop μ-loop
 not-inserted-requires c κs =
-    let f = c .before .before .before .before .before .before .before .before .before .before .before .before .before .before .before .loop .inv .few in
-    let l = c .before .before .before .before .before .before .before .before .before .before .before .before .before .before .before .loop .inv .low in
-    (holds-held _ _ _ (c .before .before .before .before .before .insert-by .ensures .holds), ((l, c .before .before .before .before .before .before .before .before .before .before .before .before .before .before .before .before .before .before .before .before .pre .1), omega arith))
+    let f = c .before .before .before .before .before .before .before .before .before .before .before .before .before
+    .before .before .loop .inv .few in
+    let l = c .before .before .before .before .before .before .before .before .before .before .before .before .before
+    .before .before .loop .inv .low in (
+      holds-held _ _ _ (c .before .before .before .before .before .insert-by .ensures .holds),
+      ((l, c .before .before .before .before .before .before .before .before .before .before .before .before .before .before .before .before .before .before .before .before .pre .1), omega arith),
+    )
 
 same-length : tie.Need-same-length Inv-loop μ-loop
-same-length c = c .before .before .not-inserted .kept .0 ∙ (c .before .before .before .before .before .before .before .before .insert-by .kept .1 .0 ∙ c .before .before .before .before .before .before .before .before .before .before .before .before .before .before .before .before .before .before .loop .inv .len)
+same-length c =
+    c .before .before .not-inserted .kept .0 ∙
+    (c .before .before .before .before .before .before .before .before .insert-by .kept .1 .0 ∙ c .before .before .before
+    .before .before .before .before .before .before .before .before .before .before .before .before .before .before .before
+    .loop .inv .len)
 
 returns : tie.Need-returns Inv-loop μ-loop
-returns c = prepare-stop (c .before .before .before .before .before .before .before .before .before .before .before .before .before .before .before .before .before .before .loop .inv) (omega (arith, c .before .before .before .before .before .before .before .before .before .before .before .before .before .before .before .before .before .loop-test .taken, c .before .before .before .before .before .before .before .before .before .before .before .before .before .before .before .before .before .before .before .count-of .ensures)) _ (c .before .before .before .before .before .before .before .before .before .before .before .before .before .before .before .before .change-at .ensures) _ _ _ _ (sym (c .before .before .before .before .before .before .before .before .before .before .before .before .before .before .before .destination-of .ensures) ∙ c .before .before .before .before .before .before .before .before .before .before .before .before .before .key .given .1) (c .before .before .before .before .before .before .before .before .before .before .byte-at .ensures) (rw (c .before .before .before .before .before .before .before .before .before .before .before .posting-of .ensures) at (c .before .before .before .before .before .before .before .before .insert-by .ensures)) _ _ _ _ (c .before .before .before .before .enum-told3 .given .1) refl (c .before .before .not-inserted .ensures)
+returns c =
+    prepare-stop
+    (c .before .before .before .before .before .before .before .before .before .before .before .before .before .before
+    .before .before .before .before .loop .inv)
+    (omega (
+      arith,
+      c .before .before .before .before .before .before .before .before .before .before .before .before .before .before
+          .before .before .before .loop-test .taken,
+      c .before .before .before .before .before .before .before .before .before
+          .before .before .before .before .before .before .before .before .before .before .count-of .ensures,
+    ))
+    _
+    (c .before .before .before .before .before .before .before .before .before .before .before .before .before .before
+    .before .before .change-at .ensures)
+    _ _ _ _
+    (sym
+    (c .before .before .before .before .before .before .before .before .before .before .before .before .before .before
+    .before .destination-of .ensures)
+    ∙ c .before .before .before .before .before .before .before .before .before .before .before .before .before .key .given
+    .1)
+    (c .before .before .before .before .before .before .before .before .before .before .byte-at .ensures)
+    (rw (c .before .before .before .before .before .before .before .before .before .before .before .posting-of .ensures) at
+    (c .before .before .before .before .before .before .before .before .insert-by .ensures))
+    _ _ _ _ (c .before .before .before .before .enum-told3 .given .1) refl (c .before .before .not-inserted .ensures)
 
 enum-told-4 : tie.Need-enum-told-4 Inv-loop μ-loop
 enum-told-4 c = search needs
@@ -95,15 +159,46 @@ cast-t26 c = search needs
 
 not-inserted-requires-2 : tie.Need-not-inserted-requires-2 Inv-loop μ-loop
 not-inserted-requires-2 c κs =
-    let f = c .before .before .before .before .before .before .before .before .before .before .before .before .before .before .before .loop .inv .few in
-    let l = c .before .before .before .before .before .before .before .before .before .before .before .before .before .before .before .loop .inv .low in
-    (holds-held _ _ _ (c .before .before .before .before .before .insert-by .ensures .holds), ((l, c .before .before .before .before .before .before .before .before .before .before .before .before .before .before .before .before .before .before .before .before .pre .1), omega arith))
+    let f = c .before .before .before .before .before .before .before .before .before .before .before .before .before
+    .before .before .loop .inv .few in
+    let l = c .before .before .before .before .before .before .before .before .before .before .before .before .before
+    .before .before .loop .inv .low in (
+      holds-held _ _ _ (c .before .before .before .before .before .insert-by .ensures .holds),
+      ((l, c .before .before .before .before .before .before .before .before .before .before .before .before .before .before .before .before .before .before .before .before .pre .1), omega arith),
+    )
 
 same-length-2 : tie.Need-same-length-2 Inv-loop μ-loop
-same-length-2 c = c .before .before .not-inserted2 .kept .0 ∙ (c .before .before .before .before .before .before .before .before .insert-by .kept .1 .0 ∙ c .before .before .before .before .before .before .before .before .before .before .before .before .before .before .before .before .before .before .loop .inv .len)
+same-length-2 c =
+    c .before .before .not-inserted2 .kept .0 ∙
+    (c .before .before .before .before .before .before .before .before .insert-by .kept .1 .0 ∙ c .before .before .before
+    .before .before .before .before .before .before .before .before .before .before .before .before .before .before .before
+    .loop .inv .len)
 
 returns-2 : tie.Need-returns-2 Inv-loop μ-loop
-returns-2 c = prepare-stop (c .before .before .before .before .before .before .before .before .before .before .before .before .before .before .before .before .before .before .loop .inv) (omega (arith, c .before .before .before .before .before .before .before .before .before .before .before .before .before .before .before .before .before .loop-test .taken, c .before .before .before .before .before .before .before .before .before .before .before .before .before .before .before .before .before .before .before .count-of .ensures)) _ (c .before .before .before .before .before .before .before .before .before .before .before .before .before .before .before .before .change-at .ensures) _ _ _ _ (sym (c .before .before .before .before .before .before .before .before .before .before .before .before .before .before .before .destination-of .ensures) ∙ c .before .before .before .before .before .before .before .before .before .before .before .before .before .key .given .1) (c .before .before .before .before .before .before .before .before .before .before .byte-at .ensures) (rw (c .before .before .before .before .before .before .before .before .before .before .before .posting-of .ensures) at (c .before .before .before .before .before .before .before .before .insert-by .ensures)) _ _ _ _ (c .before .before .before .before .enum-told4 .given .1) refl (c .before .before .not-inserted2 .ensures)
+returns-2 c =
+    prepare-stop
+    (c .before .before .before .before .before .before .before .before .before .before .before .before .before .before
+    .before .before .before .before .loop .inv)
+    (omega (
+      arith,
+      c .before .before .before .before .before .before .before .before .before .before .before .before .before .before
+          .before .before .before .loop-test .taken,
+      c .before .before .before .before .before .before .before .before .before
+          .before .before .before .before .before .before .before .before .before .before .count-of .ensures,
+    ))
+    _
+    (c .before .before .before .before .before .before .before .before .before .before .before .before .before .before
+    .before .before .change-at .ensures)
+    _ _ _ _
+    (sym
+    (c .before .before .before .before .before .before .before .before .before .before .before .before .before .before
+    .before .destination-of .ensures)
+    ∙ c .before .before .before .before .before .before .before .before .before .before .before .before .before .key .given
+    .1)
+    (c .before .before .before .before .before .before .before .before .before .before .byte-at .ensures)
+    (rw (c .before .before .before .before .before .before .before .before .before .before .before .posting-of .ensures) at
+    (c .before .before .before .before .before .before .before .before .insert-by .ensures))
+    _ _ _ _ (c .before .before .before .before .enum-told4 .given .1) refl (c .before .before .not-inserted2 .ensures)
 
 same-length-3 : tie.Need-same-length-3 Inv-loop μ-loop
 same-length-3 c = c .before .loop .inv .len

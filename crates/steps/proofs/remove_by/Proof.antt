@@ -15,7 +15,9 @@ same-length : tie.Need-same-length
 same-length c = search needs
 
 returns-2 : tie.Need-returns-2
-returns-2 c = remove-gone _ 0 _ _ _ (c .before .before .before .before .before .before .pre) _ _ _ (c .before .before .before .before .if1 .left) refl (c .before .before .remove .ensures)
+returns-2 c =
+    remove-gone _ 0 _ _ _ (c .before .before .before .before .before .before .pre) _ _ _
+    (c .before .before .before .before .if1 .left) refl (c .before .before .remove .ensures)
 
 pub remove-by-spec : {M : Type 1} → statement M
 remove-by-spec = tie.close (tie.spec returns remove-requires same-length returns-2)

@@ -10,7 +10,8 @@ use Rattle.steps.proofs.remove_sources.Statement.{statement}
 use Rattle.steps.proofs.remove_sources.Tie as tie
 
 abbrev Inv-loop : tie.InvT-loop
-Inv-loop table₀ list strip clear used read n used₀ read₀ i₀ table used' read' i = Removing (changes list) strip clear read used table₀ table used' read' i
+Inv-loop table₀ list strip clear used read n used₀ read₀ i₀ table used' read' i =
+    Removing (changes list) strip clear read used table₀ table used' read' i
 
 abbrev μ-loop : tie.MeasureT-loop
 μ-loop table₀ list strip clear used read n used₀ read₀ i₀ table used' read' i = n - i
@@ -40,7 +41,9 @@ loop-less : tie.Need-loop-less Inv-loop μ-loop
 loop-less c = search needs
 
 loop-again : tie.Need-loop-again Inv-loop μ-loop
-loop-again c = remove-pass (c .before .before .before .before .before .loop .inv) (omega arith) _ (c .before .before .before .change-at .ensures) (sym (c .before .before .source-of .ensures) ∙ c .enum-told .given .1)
+loop-again c =
+    remove-pass (c .before .before .before .before .before .loop .inv) (omega arith) _
+    (c .before .before .before .change-at .ensures) (sym (c .before .before .source-of .ensures) ∙ c .enum-told .given .1)
 
 posting-of-requires : tie.Need-posting-of-requires Inv-loop μ-loop
 posting-of-requires c κs = search needs
@@ -52,16 +55,37 @@ remove-by-requires : tie.Need-remove-by-requires Inv-loop μ-loop
 remove-by-requires c κs = c .before .before .before .before .before .before .before .before .before .loop .inv .held
 
 add-read : tie.Need-add-read Inv-loop μ-loop
-add-read c = let f = c .before .before .before .before .before .before .before .before .before .before .before .before .loop .inv .few in let l = c .before .before .before .before .before .before .before .before .before .before .before .before .loop .inv .low in omega (arith, changes-length (c .before .before .before .before .before .before .before .before .before .before .before .before .before .before .before .before .before .args .list .now))
+add-read c =
+    let f = c .before .before .before .before .before .before .before .before .before .before .before .before .loop .inv
+    .few in
+    let l = c .before .before .before .before .before .before .before .before .before .before .before .before .loop .inv
+    .low in
+    omega (
+      arith,
+      changes-length
+          (c .before .before .before .before .before .before .before .before .before .before .before .before .before .before .before .before .before .args .list .now),
+    )
 
 cast-t20 : tie.Need-cast-t20 Inv-loop μ-loop
 cast-t20 c = search needs
 
 same-length : tie.Need-same-length Inv-loop μ-loop
-same-length c = c .before .before .before .remove-by .kept .1 .0 ∙ c .before .before .before .before .before .before .before .before .before .before .before .before .before .loop .inv .len
+same-length c =
+    c .before .before .before .remove-by .kept .1 .0 ∙ c .before .before .before .before .before .before .before .before
+    .before .before .before .before .before .loop .inv .len
 
 returns : tie.Need-returns Inv-loop μ-loop
-returns c = remove-stop (c .before .before .before .before .before .before .before .before .before .before .before .before .before .loop .inv) (omega arith) _ (c .before .before .before .before .before .before .before .before .before .before .before .change-at .ensures) _ _ _ _ (sym (c .before .before .before .before .before .before .before .before .before .before .source-of .ensures) ∙ c .before .before .before .before .before .before .before .before .key .given .1) (c .before .before .before .before .before .byte-at .ensures) (rw (c .before .before .before .before .before .before .posting-of .ensures) at (c .before .before .before .remove-by .ensures)) (c .if1 .taken)
+returns c =
+    remove-stop
+    (c .before .before .before .before .before .before .before .before .before .before .before .before .before .loop .inv)
+    (omega arith) _
+    (c .before .before .before .before .before .before .before .before .before .before .before .change-at .ensures) _ _ _ _
+    (sym (c .before .before .before .before .before .before .before .before .before .before .source-of .ensures) ∙ c .before
+    .before .before .before .before .before .before .before .key .given .1)
+    (c .before .before .before .before .before .byte-at .ensures)
+    (rw (c .before .before .before .before .before .before .posting-of .ensures) at
+    (c .before .before .before .remove-by .ensures))
+    (c .if1 .taken)
 
 add-i-2 : tie.Need-add-i-2 Inv-loop μ-loop
 add-i-2 c = search needs
@@ -70,7 +94,17 @@ loop-less-2 : tie.Need-loop-less-2 Inv-loop μ-loop
 loop-less-2 c = search needs
 
 loop-again-2 : tie.Need-loop-again-2 Inv-loop μ-loop
-loop-again-2 c = remove-clear (c .before .before .before .before .before .before .before .before .before .before .before .before .before .loop .inv) (omega arith) _ (c .before .before .before .before .before .before .before .before .before .before .before .change-at .ensures) _ _ _ _ (sym (c .before .before .before .before .before .before .before .before .before .before .source-of .ensures) ∙ c .before .before .before .before .before .before .before .before .key .given .1) (c .before .before .before .before .before .byte-at .ensures) (rw (c .before .before .before .before .before .before .posting-of .ensures) at (c .before .before .before .remove-by .ensures)) (c .if1 .left) (c .before .before .before .remove-by .kept .1 .0)
+loop-again-2 c =
+    remove-clear
+    (c .before .before .before .before .before .before .before .before .before .before .before .before .before .loop .inv)
+    (omega arith) _
+    (c .before .before .before .before .before .before .before .before .before .before .before .change-at .ensures) _ _ _ _
+    (sym (c .before .before .before .before .before .before .before .before .before .before .source-of .ensures) ∙ c .before
+    .before .before .before .before .before .before .before .key .given .1)
+    (c .before .before .before .before .before .byte-at .ensures)
+    (rw (c .before .before .before .before .before .before .posting-of .ensures) at
+    (c .before .before .before .remove-by .ensures))
+    (c .if1 .left) (c .before .before .before .remove-by .kept .1 .0)
 
 same-length-2 : tie.Need-same-length-2 Inv-loop μ-loop
 same-length-2 c = c .before .loop .inv .len

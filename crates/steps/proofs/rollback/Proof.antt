@@ -10,13 +10,16 @@ use Rattle.steps.proofs.rollback.Statement.{statement}
 use Rattle.steps.proofs.rollback.Tie as tie
 
 abbrev Inv-loop : tie.InvT-loop
-Inv-loop table₀ list strip «record» used so-far₀ place₀ table so-far place = Undoing (asRecorded «record») (changes list) strip (length «record») 0 used table₀ table so-far place
+Inv-loop table₀ list strip «record» used so-far₀ place₀ table so-far place =
+    Undoing (asRecorded «record») (changes list) strip (length «record») 0 used table₀ table so-far place
 
 abbrev μ-loop : tie.MeasureT-loop
 μ-loop table₀ list strip «record» used so-far₀ place₀ table so-far place = place
 
 loop-holds : tie.Need-loop-holds Inv-loop μ-loop
-loop-holds c = undo-start (asRecorded (c .before .before .before .before .args .record .now)) _ _ _ _ _ _ (c .before .before .before .before .pre .0 .0)
+loop-holds c =
+    undo-start (asRecorded (c .before .before .before .before .args .record .now)) _ _ _ _ _ _
+    (c .before .before .before .before .pre .0 .0)
 
 sub-place : tie.Need-sub-place Inv-loop μ-loop
 sub-place c = search needs
@@ -34,20 +37,31 @@ undo-change-requires : tie.Need-undo-change-requires Inv-loop μ-loop
 undo-change-requires c κs =
     let l = c .before .before .before .loop .inv .low in
     let f = c .before .before .before .loop .inv .few in
-    let b = number-below _ _ (c .before .before .before .loop .place - 1) (c .before .before .before .before .before .before .before .before .pre .1) (omega arith) in
-    (c .before .before .before .loop .inv .held, ((b, c .before .before .before .before .before .before .before .before .pre .0 .1), omega arith))
+    let b =
+    number-below _ _ (c .before .before .before .loop .place - 1)
+    (c .before .before .before .before .before .before .before .before .pre .1) (omega arith) in (
+      c .before .before .before .loop .inv .held,
+      ((b, c .before .before .before .before .before .before .before .before .pre .0 .1), omega arith),
+    )
 
 loop-less : tie.Need-loop-less Inv-loop μ-loop
 loop-less c = search needs
 
 loop-again : tie.Need-loop-again Inv-loop μ-loop
-loop-again c = undo-turn (c .before .before .before .before .before .before .loop .inv) (c .before .before .before .before .before .loop-test .taken) (c .before .before .undo-change .kept .0) (c .before .before .undo-change .ensures)
+loop-again c =
+    undo-turn (c .before .before .before .before .before .before .loop .inv)
+    (c .before .before .before .before .before .loop-test .taken) (c .before .before .undo-change .kept .0)
+    (c .before .before .undo-change .ensures)
 
 same-length : tie.Need-same-length Inv-loop μ-loop
 same-length c = c .before .loop .inv .len
 
 returns : tie.Need-returns Inv-loop μ-loop
-returns c = rw (recorded-backward (changes (c .before .before .before .before .before .before .args .list .now)) (c .before .before .before .before .before .before .args .record .now)) (undo-end (c .before .loop .inv) _ (omega arith) (omega arith))
+returns c =
+    rw
+    (recorded-backward (changes (c .before .before .before .before .before .before .args .list .now))
+    (c .before .before .before .before .before .before .args .record .now))
+    (undo-end (c .before .loop .inv) _ (omega arith) (omega arith))
 
 pub rollback-spec : {M : Type 1} → statement M
 rollback-spec =

@@ -8,7 +8,8 @@ use Rattle.steps.proofs.undo_below.Statement.{statement}
 use Rattle.steps.proofs.undo_below.Tie as tie
 
 abbrev Inv-loop : tie.InvT-loop
-Inv-loop table₀ list strip change used read so-far₀ i₀ table so-far i = Undoing inOrder (changes list) strip change read used table₀ table so-far i
+Inv-loop table₀ list strip change used read so-far₀ i₀ table so-far i =
+    Undoing inOrder (changes list) strip change read used table₀ table so-far i
 
 abbrev μ-loop : tie.MeasureT-loop
 μ-loop table₀ list strip change used read so-far₀ i₀ table so-far i = i
@@ -22,14 +23,18 @@ sub-i c = search needs
 undo-change-requires : tie.Need-undo-change-requires Inv-loop μ-loop
 undo-change-requires c κs =
     let l = c .before .before .loop .inv .low in
-    let f = c .before .before .loop .inv .few in
-    (c .before .before .loop .inv .held, ((omega arith, c .before .before .before .before .before .before .pre .1 .0 .1), omega arith))
+    let f = c .before .before .loop .inv .few in (
+      c .before .before .loop .inv .held,
+      ((omega arith, c .before .before .before .before .before .before .pre .1 .0 .1), omega arith),
+    )
 
 loop-less : tie.Need-loop-less Inv-loop μ-loop
 loop-less c = search needs
 
 loop-again : tie.Need-loop-again Inv-loop μ-loop
-loop-again c = undo-turn (c .before .before .before .before .before .loop .inv) (c .before .before .before .before .loop-test .taken) (c .before .before .undo-change .kept .0) (c .before .before .undo-change .ensures)
+loop-again c =
+    undo-turn (c .before .before .before .before .before .loop .inv) (c .before .before .before .before .loop-test .taken)
+    (c .before .before .undo-change .kept .0) (c .before .before .undo-change .ensures)
 
 same-length : tie.Need-same-length Inv-loop μ-loop
 same-length c = c .before .loop .inv .len

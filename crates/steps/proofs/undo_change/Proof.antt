@@ -20,7 +20,10 @@ enum-told : tie.Need-enum-told
 enum-told c = search needs
 
 returns : tie.Need-returns
-returns c = rw (← c .before .before .before .change-at .ensures) (undone-none _ _ _ _ _ (sym (c .before .before .destination-of .ensures) ∙ c .enum-told .given .1) (c .before .before .before .before .before .before .before .pre .0))
+returns c =
+    rw (← c .before .before .before .change-at .ensures)
+    (undone-none _ _ _ _ _ (sym (c .before .before .destination-of .ensures) ∙ c .enum-told .given .1)
+    (c .before .before .before .before .before .before .before .pre .0))
 
 posting-of-requires : tie.Need-posting-of-requires
 posting-of-requires c κs = search needs
@@ -41,7 +44,16 @@ same-length : tie.Need-same-length
 same-length c = search needs
 
 returns-2 : tie.Need-returns-2
-returns-2 c = rw (← c .before .before .before .before .before .before .before .before .before .before .before .before .change-at .ensures) (undone-one _ _ _ _ _ _ _ _ _ true (sym (c .before .before .before .before .before .before .before .before .before .before .before .destination-of .ensures) ∙ c .before .before .before .before .before .before .before .before .before .key .given .1) (c .before .before .before .before .before .before .byte-at .ensures) (rw (c .before .before .before .before .before .before .before .posting-of .ensures) at (c .before .before .before .before .remove-by .ensures)) (c .before .if1 .taken))
+returns-2 c =
+    rw
+    (← c .before .before .before .before .before .before .before .before .before .before .before .before .change-at .ensures)
+    (undone-one _ _ _ _ _ _ _ _ _ true
+    (sym (c .before .before .before .before .before .before .before .before .before .before .before .destination-of .ensures)
+    ∙ c .before .before .before .before .before .before .before .before .before .key .given .1)
+    (c .before .before .before .before .before .before .byte-at .ensures)
+    (rw (c .before .before .before .before .before .before .before .posting-of .ensures) at
+    (c .before .before .before .before .remove-by .ensures))
+    (c .before .if1 .taken))
 
 add-t20 : tie.Need-add-t20
 add-t20 c = search needs
@@ -50,7 +62,16 @@ same-length-2 : tie.Need-same-length-2
 same-length-2 c = search needs
 
 returns-3 : tie.Need-returns-3
-returns-3 c = rw (← c .before .before .before .before .before .before .before .before .before .before .before .before .change-at .ensures) (undone-one _ _ _ _ _ _ _ _ _ false (sym (c .before .before .before .before .before .before .before .before .before .before .before .destination-of .ensures) ∙ c .before .before .before .before .before .before .before .before .before .key .given .1) (c .before .before .before .before .before .before .byte-at .ensures) (rw (c .before .before .before .before .before .before .before .posting-of .ensures) at (c .before .before .before .before .remove-by .ensures)) (c .before .if1 .left))
+returns-3 c =
+    rw
+    (← c .before .before .before .before .before .before .before .before .before .before .before .before .change-at .ensures)
+    (undone-one _ _ _ _ _ _ _ _ _ false
+    (sym (c .before .before .before .before .before .before .before .before .before .before .before .destination-of .ensures)
+    ∙ c .before .before .before .before .before .before .before .before .before .key .given .1)
+    (c .before .before .before .before .before .before .byte-at .ensures)
+    (rw (c .before .before .before .before .before .before .before .posting-of .ensures) at
+    (c .before .before .before .before .remove-by .ensures))
+    (c .before .if1 .left))
 
 pub undo-change-spec : {M : Type 1} → statement M
 undo-change-spec =

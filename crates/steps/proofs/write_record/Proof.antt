@@ -39,7 +39,10 @@ loop-less : tie.Need-loop-less Inv-loop μ-loop
 loop-less c = search needs
 
 loop-again : tie.Need-loop-again Inv-loop μ-loop
-loop-again c = record-pass (c .before .before .before .before .before .loop .inv) (omega arith) _ (c .before .before .before .change-at .ensures) (sym (c .before .before .destination-of .ensures) ∙ c .enum-told2 .given .1)
+loop-again c =
+    record-pass (c .before .before .before .before .before .loop .inv) (omega arith) _
+    (c .before .before .before .change-at .ensures)
+    (sym (c .before .before .destination-of .ensures) ∙ c .enum-told2 .given .1)
 
 cast-record : tie.Need-cast-record Inv-loop μ-loop
 cast-record c = search needs
@@ -48,7 +51,10 @@ mul-record : tie.Need-mul-record Inv-loop μ-loop
 mul-record c = search needs
 
 slice-write-record : tie.Need-slice-write-record Inv-loop μ-loop
-slice-write-record c = let f = c .before .before .before .before .before .loop .inv .few in let l = c .before .before .before .before .before .loop .inv .len in omega arith
+slice-write-record c =
+    let f = c .before .before .before .before .before .loop .inv .few in
+    let l = c .before .before .before .before .before .loop .inv .len in
+    omega arith
 
 add-place : tie.Need-add-place Inv-loop μ-loop
 add-place c = let f = c .before .before .before .before .before .loop .inv .few in omega arith
@@ -60,7 +66,11 @@ loop-less-2 : tie.Need-loop-less-2 Inv-loop μ-loop
 loop-less-2 c = search needs
 
 loop-again-2 : tie.Need-loop-again-2 Inv-loop μ-loop
-loop-again-2 c = record-turn (c .before .before .before .before .before .loop .inv) (omega arith) _ (c .before .before .before .change-at .ensures) _ (sym (c .before .before .destination-of .ensures) ∙ c .enum-told .given .1) (c .before .before .before .before .before .before .before .before .before .pre .1)
+loop-again-2 c =
+    record-turn (c .before .before .before .before .before .loop .inv) (omega arith) _
+    (c .before .before .before .change-at .ensures) _
+    (sym (c .before .before .destination-of .ensures) ∙ c .enum-told .given .1)
+    (c .before .before .before .before .before .before .before .before .before .pre .1)
 
 same-length : tie.Need-same-length Inv-loop μ-loop
 same-length c = c .before .loop .inv .len

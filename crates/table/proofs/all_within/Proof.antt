@@ -15,7 +15,9 @@ read-requires : tie.Need-read-requires
 read-requires c κs = search needs
 
 returns-2 : tie.Need-returns-2
-returns-2 c = bindings-within _ _ _ (c .before .before .before .before .pre .0) (search needs) (c .before .before .before .before .pre .1) _ (c .before .read .ensures)
+returns-2 c =
+    bindings-within _ _ _ (c .before .before .before .before .pre .0) (search needs)
+    (c .before .before .before .before .pre .1) _ (c .before .read .ensures)
 
 pub all-within-spec : {M : Type 1} → statement M
 all-within-spec = tie.close (tie.spec returns sub-read read-requires returns-2)

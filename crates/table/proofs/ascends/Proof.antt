@@ -39,15 +39,32 @@ loop-less : tie.Need-loop-less Inv-loop μ-loop
 loop-less c = search needs
 
 loop-again : tie.Need-loop-again Inv-loop μ-loop
-loop-again c = (search needs, c .before .before .before .before .loop .inv .1 ∙ chain-left _ _ (c .before .before .before .before .before .before .before .before .pre) _ (c .before .before .before .loop-test .taken) _ (c .before .before .read2 .ensures) _ true (sym (c .before .before2 .ensures) ∙ c .if2 .taken))
+loop-again c = (
+  search needs,
+  c .before .before .before .before .loop .inv .1 ∙ chain-left _ _
+      (c .before .before .before .before .before .before .before .before .pre) _ (c .before .before .before .loop-test .taken)
+      _ (c .before .before .read2 .ensures) _ true (sym (c .before .before2 .ensures) ∙ c .if2 .taken),
+)
 
 returns-2 : tie.Need-returns-2 Inv-loop μ-loop
-returns-2 c = sym (c .before .before .before .before .loop .inv .1 ∙ chain-left _ _ (c .before .before .before .before .before .before .before .before .pre) _ (c .before .before .before .loop-test .taken) _ (c .before .before .read2 .ensures) _ false (sym (c .before .before2 .ensures) ∙ c .if2 .left))
+returns-2 c =
+    sym
+    (c .before .before .before .before .loop .inv .1 ∙ chain-left _ _
+    (c .before .before .before .before .before .before .before .before .pre) _ (c .before .before .before .loop-test .taken)
+    _ (c .before .before .read2 .ensures) _ false (sym (c .before .before2 .ensures) ∙ c .if2 .left))
 
 returns-3 : tie.Need-returns-3 Inv-loop μ-loop
 returns-3 c =
     let end : c .before .loop .i ≡ c .before .before .before .before .before .args .used = omega arith in
-    sym (c .before .loop .inv .1 ∙ (ap (λ (n : ℕ). chain (c .before .loop .last) (drop n (postings (c .before .before .before .before .before .args .used) (c .before .before .before .before .before .args .table .now)))) end ∙ (ap (chain (c .before .loop .last)) (none-left _ _ (c .before .before .before .before .before .pre)) ∙ none-chained _)))
+    sym
+    (c .before .loop .inv .1 ∙
+    (ap
+    (λ (n : ℕ). chain (c .before .loop .last)
+    (drop n
+    (postings (c .before .before .before .before .before .args .used)
+    (c .before .before .before .before .before .args .table .now))))
+    end ∙
+    (ap (chain (c .before .loop .last)) (none-left _ _ (c .before .before .before .before .before .pre)) ∙ none-chained _)))
 
 pub ascends-spec : {M : Type 1} → statement M
 ascends-spec =

@@ -13,7 +13,9 @@ use Rattle.table.proofs.count_of.Statement.{statement}
 use Rattle.table.proofs.count_of.Tie as tie
 
 abbrev Inv-loop : tie.InvT-loop
-Inv-loop table used binding key n₀ i₀ n i = (i ≤ used) × ((n ≤ i) × (counted binding key (postings used table) ≡ n + counted binding key (drop i (postings used table))))
+Inv-loop table used binding key n₀ i₀ n i =
+    (i ≤ used) ×
+    ((n ≤ i) × (counted binding key (postings used table) ≡ n + counted binding key (drop i (postings used table))))
 
 abbrev μ-loop : tie.MeasureT-loop
 μ-loop table used binding key n₀ i₀ n i = used - i
@@ -39,7 +41,10 @@ loop-less c = search needs
 loop-again : tie.Need-loop-again Inv-loop μ-loop
 loop-again c =
     let l = c .before .before .before .loop .inv .1 .1 in
-    let w = bucket-left _ _ (c .before .before .before .before .before .pre) _ (c .before .before .loop-test .taken) _ (c .before .read .ensures) (c .before .before .before .before .before .args .binding) (c .before .before .before .before .before .args .key) in
+    let w =
+    bucket-left _ _ (c .before .before .before .before .before .pre) _ (c .before .before .loop-test .taken) _
+    (c .before .read .ensures) (c .before .before .before .before .before .args .binding)
+    (c .before .before .before .before .before .args .key) in
     let h = c .hit .ensures in
     (search needs, (omega (arith, one-most _ _ (c .before .read .result) h), omega arith))
 
@@ -47,8 +52,17 @@ returns : tie.Need-returns Inv-loop μ-loop
 returns c =
     let end : c .before .loop .i ≡ c .before .before .before .args .used = omega arith in
     let none : length (bucket (c .before .before .before .args .binding) (c .before .before .before .args .key) (drop (c .before .loop .i) (postings (c .before .before .before .args .used) (c .before .before .before .args .table .now)))) ≡ 0 =
-    ap (λ (n : ℕ). length (bucket (c .before .before .before .args .binding) (c .before .before .before .args .key) (drop n (postings (c .before .before .before .args .used) (c .before .before .before .args .table .now))))) end
-    ∙ (ap (λ (l : List Posting). length (bucket (c .before .before .before .args .binding) (c .before .before .before .args .key) l)) (none-left _ _ (c .before .before .before .pre)) ∙ none-counted _ _) in
+    ap
+    (λ (n : ℕ). length
+    (bucket (c .before .before .before .args .binding) (c .before .before .before .args .key)
+    (drop n (postings (c .before .before .before .args .used) (c .before .before .before .args .table .now)))))
+    end
+    ∙
+    (ap
+    (λ (l : List Posting). length
+    (bucket (c .before .before .before .args .binding) (c .before .before .before .args .key) l))
+    (none-left _ _ (c .before .before .before .pre)) ∙ none-counted _ _)
+    in
     let l = c .before .loop .inv .1 .1 in
     omega arith
 

@@ -34,19 +34,37 @@ loop-less : tie.Need-loop-less Inv-loop μ-loop
 loop-less c = search needs
 
 loop-again : tie.Need-loop-again Inv-loop μ-loop
-loop-again c = (search needs, passed-more _ _ _ (c .before .before .before .before .before .loop .inv .1) _ (next-left _ _ (c .before .before .before .before .before .before .before .pre .room) _ (c .before .before .before .before .loop-test .taken) _ (c .before .before .before .read .ensures)) (sym (c .before .before .compare .ensures) ∙ c .enum-told .given .1))
+loop-again c = (
+  search needs,
+  passed-more _ _ _ (c .before .before .before .before .before .loop .inv .1) _
+      (next-left _ _ (c .before .before .before .before .before .before .before .pre .room) _
+      (c .before .before .before .before .loop-test .taken) _ (c .before .before .before .read .ensures))
+      (sym (c .before .before .compare .ensures) ∙ c .enum-told .given .1),
+)
 
 enum-told-2 : tie.Need-enum-told-2 Inv-loop μ-loop
 enum-told-2 c = search needs
 
 returns : tie.Need-returns Inv-loop μ-loop
-returns c = sym (passed-same _ _ _ (c .before .before .before .before .before .loop .inv .1) _ (next-left _ _ (c .before .before .before .before .before .before .before .pre .room) _ (c .before .before .before .before .loop-test .taken) _ (c .before .before .before .read .ensures)) (c .before .before .before .before .before .before .before .pre .sorted) (sym (c .before .before .compare .ensures) ∙ c .enum-told2 .given .1))
+returns c =
+    sym
+    (passed-same _ _ _ (c .before .before .before .before .before .loop .inv .1) _
+    (next-left _ _ (c .before .before .before .before .before .before .before .pre .room) _
+    (c .before .before .before .before .loop-test .taken) _ (c .before .before .before .read .ensures))
+    (c .before .before .before .before .before .before .before .pre .sorted)
+    (sym (c .before .before .compare .ensures) ∙ c .enum-told2 .given .1))
 
 enum-told-3 : tie.Need-enum-told-3 Inv-loop μ-loop
 enum-told-3 c = search needs
 
 returns-2 : tie.Need-returns-2 Inv-loop μ-loop
-returns-2 c = sym (passed-after _ _ _ (c .before .before .before .before .before .loop .inv .1) _ (next-left _ _ (c .before .before .before .before .before .before .before .pre .room) _ (c .before .before .before .before .loop-test .taken) _ (c .before .before .before .read .ensures)) (c .before .before .before .before .before .before .before .pre .sorted) (sym (c .before .before .compare .ensures) ∙ c .enum-told3 .given .1))
+returns-2 c =
+    sym
+    (passed-after _ _ _ (c .before .before .before .before .before .loop .inv .1) _
+    (next-left _ _ (c .before .before .before .before .before .before .before .pre .room) _
+    (c .before .before .before .before .loop-test .taken) _ (c .before .before .before .read .ensures))
+    (c .before .before .before .before .before .before .before .pre .sorted)
+    (sym (c .before .before .compare .ensures) ∙ c .enum-told3 .given .1))
 
 returns-3 : tie.Need-returns-3 Inv-loop μ-loop
 returns-3 c =

@@ -16,16 +16,32 @@ enum-known-at : tie.Need-enum-known-at
 enum-known-at c = search needs
 
 mul-raise : tie.Need-mul-raise
-mul-raise c = let low = gap-low _ _ _ _ (c .before .before .before .before .before .before .before .pre .0) (sym (c .before .before .before .before .find .ensures) ∙ c .before .before .at .given .1) in let r = c .before .before .before .before .before .before .before .pre .0 .room in omega arith
+mul-raise c =
+    let low = gap-low _ _ _ _ (c .before .before .before .before .before .before .before .pre .0)
+    (sym (c .before .before .before .before .find .ensures) ∙ c .before .before .at .given .1) in
+    let r = c .before .before .before .before .before .before .before .pre .0 .room in
+    omega arith
 
 mul-raise-2 : tie.Need-mul-raise-2
 mul-raise-2 c = let r = c .before .before .before .before .before .before .before .pre .0 .room in omega arith
 
 raise-requires : tie.Need-raise-requires
-raise-requires c κs = let low = gap-low _ _ _ _ (c .before .before .before .before .before .before .before .pre .0) (sym (c .before .before .before .before .find .ensures) ∙ c .before .before .at .given .1) in let r = c .before .before .before .before .before .before .before .pre .0 .room in (omega arith, omega arith)
+raise-requires c κs =
+    let low = gap-low _ _ _ _ (c .before .before .before .before .before .before .before .pre .0)
+    (sym (c .before .before .before .before .find .ensures) ∙ c .before .before .at .given .1) in
+    let r = c .before .before .before .before .before .before .before .pre .0 .room in
+    (omega arith, omega arith)
 
 write-requires : tie.Need-write-requires
-write-requires c κs = let low = gap-low _ _ _ _ (c .before .before .before .before .before .before .before .before .before .before .before .pre .0) (sym (c .before .before .before .before .before .before .before .before .find .ensures) ∙ c .before .before .before .before .before .before .at .given .1) in let r = c .before .before .before .before .before .before .before .before .before .before .before .pre .0 .room in let k = c .before .before .before .raise .kept .0 in omega arith
+write-requires c κs =
+    let low = gap-low _ _ _ _
+    (c .before .before .before .before .before .before .before .before .before .before .before .pre .0)
+    (sym (c .before .before .before .before .before .before .before .before .find .ensures) ∙ c .before .before .before
+    .before .before .before .at .given .1)
+    in
+    let r = c .before .before .before .before .before .before .before .before .before .before .before .pre .0 .room in
+    let k = c .before .before .before .raise .kept .0 in
+    omega arith
 
 add-result : tie.Need-add-result
 add-result c = search needs
@@ -34,13 +50,22 @@ same-length : tie.Need-same-length
 same-length c = search needs
 
 returns : tie.Need-returns
-returns c = inserted-kept _ _ _ _ (c .before .before .before .before .before .pre .0) (sym (c .before .before .find .ensures) ∙ c .enum-told .given .1)
+returns c =
+    inserted-kept _ _ _ _ (c .before .before .before .before .before .pre .0)
+    (sym (c .before .before .find .ensures) ∙ c .enum-told .given .1)
 
 same-length-2 : tie.Need-same-length-2
 same-length-2 c = search needs
 
 returns-2 : tie.Need-returns-2
-returns-2 c = inserted-held _ _ _ _ (c .before .before .before .before .before .before .before .before .before .before .before .before .before .before .pre .0) _ _ (sym (c .before .before .before .before .before .before .before .before .before .before .before .find .ensures) ∙ c .before .before .before .before .before .before .before .before .before .at .given .1) (omega arith) (c .before .before .before .before .before .before .raise .ensures) (c .before .before .write .ensures)
+returns-2 c =
+    inserted-held _ _ _ _
+    (c .before .before .before .before .before .before .before .before .before .before .before .before .before .before .pre
+    .0)
+    _ _
+    (sym (c .before .before .before .before .before .before .before .before .before .before .before .find .ensures) ∙ c
+    .before .before .before .before .before .before .before .before .before .at .given .1)
+    (omega arith) (c .before .before .before .before .before .before .raise .ensures) (c .before .before .write .ensures)
 
 pub insert-spec : {M : Type 1} → statement M
 insert-spec =

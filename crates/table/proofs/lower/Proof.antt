@@ -9,7 +9,8 @@ use Rattle.table.proofs.lower.Statement.{statement}
 use Rattle.table.proofs.lower.Tie as tie
 
 abbrev Inv-loop : tie.InvT-loop
-Inv-loop table₀ from to last k₀ table k = (from ≤ k) × ((k ≤ last) × ((length table ≡ length table₀) × (table ≡ lowering from k table₀)))
+Inv-loop table₀ from to last k₀ table k =
+    (from ≤ k) × ((k ≤ last) × ((length table ≡ length table₀) × (table ≡ lowering from k table₀)))
 
 abbrev μ-loop : tie.MeasureT-loop
 μ-loop table₀ from to last k₀ table k = last - k
@@ -42,7 +43,17 @@ loop-less : tie.Need-loop-less Inv-loop μ-loop
 loop-less c = search needs
 
 loop-again : tie.Need-loop-again Inv-loop μ-loop
-loop-again c = (omega arith, (omega arith, (simp length-set (c .before .before .loop .inv .1 .1 .0), lowering-turn _ _ _ _ (c .before .before .loop .inv .1 .1 .1) (c .before .before .loop .inv .0) (omega arith))))
+loop-again c = (
+  omega arith,
+  (
+    omega arith,
+    (
+      simp length-set (c .before .before .loop .inv .1 .1 .0),
+      lowering-turn _ _ _ _ (c .before .before .loop .inv .1 .1 .1)
+          (c .before .before .loop .inv .0) (omega arith),
+    ),
+  ),
+)
 
 same-length : tie.Need-same-length Inv-loop μ-loop
 same-length c = c .before .loop .inv .1 .1 .0

@@ -44,14 +44,24 @@ loop-less c = search needs
 
 loop-again : tie.Need-loop-again Inv-loop μ-loop
 loop-again c =
-    let low : c .before .before .before .args .from ≤ c .before .before .loop .k - 1 = omega arith in
-    (low, (omega arith, (simp length-set (c .before .before .loop .inv .1 .1 .0), raised-turn _ _ _ _ (c .before .before .loop .inv .1 .1 .1) (omega arith) (c .before .before .loop .inv .1 .0) (c .before .before .before .pre .1))))
+    let low : c .before .before .before .args .from ≤ c .before .before .loop .k - 1 = omega arith in (
+      low,
+      (
+        omega arith,
+        (
+          simp length-set (c .before .before .loop .inv .1 .1 .0),
+          raised-turn _ _ _ _ (c .before .before .loop .inv .1 .1 .1)
+              (omega arith) (c .before .before .loop .inv .1 .0) (c .before .before .before .pre .1),
+        ),
+      ),
+    )
 
 same-length : tie.Need-same-length Inv-loop μ-loop
 same-length c = c .before .loop .inv .1 .1 .0
 
 returns : tie.Need-returns Inv-loop μ-loop
-returns c = let end : c .before .loop .k ≡ c .before .before .args .from = omega arith in rw end at (c .before .loop .inv .1 .1 .1)
+returns c =
+    let end : c .before .loop .k ≡ c .before .before .args .from = omega arith in rw end at (c .before .loop .inv .1 .1 .1)
 
 pub raise-spec : {M : Type 1} → statement M
 raise-spec =

@@ -18,18 +18,36 @@ returns-2 c = rw (eq-eqb _ _ (c .before .if1 .left), lt-leb _ _ (c .if2 .taken))
 
 returns-3 : tie.Need-returns-3
 unfolding wellFormed limitsHold allOf
-returns-3 c = rw (eq-eqb _ _ (c .before .before .before .if1 .left), le-leb _ _ (c .before .before .if2 .left), lt-leb _ _ (c .if3 .taken))
+returns-3 c =
+    rw
+    (eq-eqb _ _ (c .before .before .before .if1 .left), le-leb _ _ (c .before .before .if2 .left), lt-leb _ _ (c .if3 .taken))
 
 returns-4 : tie.Need-returns-4
 unfolding wellFormed limitsHold allOf
-returns-4 c = rw (eq-eqb _ _ (c .before .before .before .before .before .if1 .left), le-leb _ _ (c .before .before .before .before .if2 .left), le-leb _ _ (c .before .before .if3 .left), lt-leb _ _ (c .if4 .taken))
+returns-4 c =
+    rw (
+      eq-eqb _ _ (c .before .before .before .before .before .if1 .left),
+      le-leb _ _
+          (c .before .before .before .before .if2 .left),
+      le-leb _ _ (c .before .before .if3 .left),
+      lt-leb _ _ (c .if4 .taken),
+    )
 
 cast-used : tie.Need-cast-used
 cast-used c = search needs
 
 returns-5 : tie.Need-returns-5
 unfolding wellFormed limitsHold allOf
-returns-5 c = rw (eq-eqb _ _ (c .before .before .before .before .before .before .before .if1 .left), le-leb _ _ (c .before .before .before .before .before .before .if2 .left), le-leb _ _ (c .before .before .before .before .if3 .left), le-leb _ _ (c .before .before .if4 .left), lt-leb _ _ (c .if5 .taken))
+returns-5 c =
+    rw (
+      eq-eqb _ _ (c .before .before .before .before .before .before .before .if1 .left),
+      le-leb _ _
+          (c .before .before .before .before .before .before .if2 .left),
+      le-leb _ _
+          (c .before .before .before .before .if3 .left),
+      le-leb _ _ (c .before .before .if4 .left),
+      lt-leb _ _ (c .if5 .taken),
+    )
 
 ascends-requires : tie.Need-ascends-requires
 ascends-requires c κs = search needs
@@ -46,16 +64,55 @@ zero-from-requires c κs = search needs
 returns-6 : tie.Need-returns-6
 unfolding wellFormed limitsHold allOf
 returns-6 c =
-    rw (eq-eqb _ _ (c .before .before .before .before .before .before .before .before .before .before .before .before .if1 .left), le-leb _ _ (c .before .before .before .before .before .before .before .before .before .before .before .if2 .left), le-leb _ _ (c .before .before .before .before .before .before .before .before .before .if3 .left), le-leb _ _ (c .before .before .before .before .before .before .before .if4 .left), le-leb _ _ (c .before .before .before .before .before .if5 .left), sym (c .before .before .before .before .ascends .ensures) ∙ c .before .before .before .if6 .taken, sym (c .before .before .all-within .ensures) ∙ c .before .if7 .taken)
+    rw (
+      eq-eqb _ _
+          (c .before .before .before .before .before .before .before .before .before .before .before .before .if1 .left),
+      le-leb _
+          _ (c .before .before .before .before .before .before .before .before .before .before .before .if2 .left),
+      le-leb _ _
+          (c .before .before .before .before .before .before .before .before .before .if3 .left),
+      le-leb _ _
+          (c .before .before .before .before .before .before .before .if4 .left),
+      le-leb _ _
+          (c .before .before .before .before .before .if5 .left),
+      sym (c .before .before .before .before .ascends .ensures) ∙ c
+          .before .before .before .if6 .taken,
+      sym (c .before .before .all-within .ensures) ∙ c .before .if7 .taken,
+    )
     (c .zero-from .ensures ∙ sym (and-true _))
 
 returns-7 : tie.Need-returns-7
 unfolding wellFormed limitsHold allOf
-returns-7 c = rw (eq-eqb _ _ (c .before .before .before .before .before .before .before .before .before .before .before .if1 .left), le-leb _ _ (c .before .before .before .before .before .before .before .before .before .before .if2 .left), le-leb _ _ (c .before .before .before .before .before .before .before .before .if3 .left), le-leb _ _ (c .before .before .before .before .before .before .if4 .left), le-leb _ _ (c .before .before .before .before .if5 .left), sym (c .before .before .before .ascends .ensures) ∙ c .before .before .if6 .taken, sym (c .before .all-within .ensures) ∙ c .if7 .left)
+returns-7 c =
+    rw (
+      eq-eqb _ _ (c .before .before .before .before .before .before .before .before .before .before .before .if1 .left),
+      le-leb _ _ (c .before .before .before .before .before .before .before .before .before .before .if2 .left),
+      le-leb _ _
+          (c .before .before .before .before .before .before .before .before .if3 .left),
+      le-leb _ _
+          (c .before .before .before .before .before .before .if4 .left),
+      le-leb _ _
+          (c .before .before .before .before .if5 .left),
+      sym (c .before .before .before .ascends .ensures) ∙ c .before .before
+          .if6 .taken,
+      sym (c .before .all-within .ensures) ∙ c .if7 .left,
+    )
 
 returns-8 : tie.Need-returns-8
 unfolding wellFormed limitsHold allOf
-returns-8 c = rw (eq-eqb _ _ (c .before .before .before .before .before .before .before .before .before .if1 .left), le-leb _ _ (c .before .before .before .before .before .before .before .before .if2 .left), le-leb _ _ (c .before .before .before .before .before .before .if3 .left), le-leb _ _ (c .before .before .before .before .if4 .left), le-leb _ _ (c .before .before .if5 .left), sym (c .before .ascends .ensures) ∙ c .if6 .left)
+returns-8 c =
+    rw (
+      eq-eqb _ _ (c .before .before .before .before .before .before .before .before .before .if1 .left),
+      le-leb _ _
+          (c .before .before .before .before .before .before .before .before .if2 .left),
+      le-leb _ _
+          (c .before .before .before .before .before .before .if3 .left),
+      le-leb _ _
+          (c .before .before .before .before .if4 .left),
+      le-leb _ _ (c .before .before .if5 .left),
+      sym
+          (c .before .ascends .ensures) ∙ c .if6 .left,
+    )
 
 pub well-formed-spec : {M : Type 1} → statement M
 well-formed-spec =

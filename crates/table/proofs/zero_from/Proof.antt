@@ -27,7 +27,10 @@ shared-slice-read-if1 : tie.Need-shared-slice-read-if1 Inv-loop μ-loop
 shared-slice-read-if1 c = search needs
 
 returns : tie.Need-returns Inv-loop μ-loop
-returns c = sym (c .before .before .before .loop .inv .1 ∙ every-left (eqb 0) 0 _ _ false (c .before .before .loop-test .taken) (ne-eqb 0 _ (λ e. c .if1 .taken (sym e))))
+returns c =
+    sym
+    (c .before .before .before .loop .inv .1 ∙ every-left (eqb 0) 0 _ _ false (c .before .before .loop-test .taken)
+    (ne-eqb 0 _ (λ e. c .if1 .taken (sym e))))
 
 add-i : tie.Need-add-i Inv-loop μ-loop
 add-i c = search needs
@@ -36,7 +39,11 @@ loop-less : tie.Need-loop-less Inv-loop μ-loop
 loop-less c = search needs
 
 loop-again : tie.Need-loop-again Inv-loop μ-loop
-loop-again c = (search needs, c .before .before .before .loop .inv .1 ∙ every-left (eqb 0) 0 _ _ true (c .before .before .loop-test .taken) (eq-eqb 0 _ (sym (c .if1 .left))))
+loop-again c = (
+  search needs,
+  c .before .before .before .loop .inv .1 ∙ every-left (eqb 0) 0 _ _ true
+      (c .before .before .loop-test .taken) (eq-eqb 0 _ (sym (c .if1 .left))),
+)
 
 returns-2 : tie.Need-returns-2 Inv-loop μ-loop
 returns-2 c = sym (c .before .loop .inv .1 ∙ every-none (eqb 0) _ _ (c .loop-test .left))

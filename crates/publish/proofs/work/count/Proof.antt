@@ -19,7 +19,9 @@ cast-t7 c =
     let h = well-formed-held _ _ (c .before .before .before .pre) in
     let s = well-formed-parts _ _ (c .before .before .before .pre) .size in
     let e = c .count-of .ensures in
-    let m = counted-most (c .before .before .before .args .binding) (c .before .before .before .args .key) (postings (c .before .before .before .args .head .used) (c .before .before .before .args .table .now)) in
+    let m =
+    counted-most (c .before .before .before .args .binding) (c .before .before .before .args .key)
+    (postings (c .before .before .before .args .head .used) (c .before .before .before .args .table .now)) in
     let r = h .room in
     let n = h .count in
     omega arith

@@ -15,7 +15,9 @@ flag-after-requires c κs = search needs
 
 returns : tie.Need-returns
 returns c =
-    let made : ℕ → Done = λ n. record { head = headWith (c .before .before .args .head) (c .before .before .args .reached .used) n; answer = c .before .before .args .reached .answer } in
+    let made : ℕ → Done =
+    λ n. record
+    { head = headWith (c .before .before .args .head) (c .before .before .args .reached .used) n; answer = c .before .before .args .reached .answer } in
     ap made (c .flag-after .ensures)
 
 pub done-spec : {M : Type 1} → statement M

@@ -13,16 +13,25 @@ cast-remove-sources : tie.Need-cast-remove-sources
 cast-remove-sources c = search needs
 
 remove-sources-requires : tie.Need-remove-sources-requires
-remove-sources-requires c κs = ((well-formed-held _ _ (c .before .before .before .before .before .pre .0), c .before .before .before .before .before .pre .1), search needs)
+remove-sources-requires c κs = (
+  (well-formed-held _ _ (c .before .before .before .before .before .pre .0), c .before .before .before .before .before .pre .1),
+  search needs,
+)
 
 done-requires : tie.Need-done-requires
-done-requires c κs = used-fits _ _ _ _ _ (c .before .before .before .before .before .before .before .before .pre .0) (c .before .before .remove-sources .kept .0) (c .before .before .remove-sources .ensures .holds)
+done-requires c κs =
+    used-fits _ _ _ _ _ (c .before .before .before .before .before .before .before .before .pre .0)
+    (c .before .before .remove-sources .kept .0) (c .before .before .remove-sources .ensures .holds)
 
 same-length : tie.Need-same-length
 same-length c = search needs
 
 returns : tie.Need-returns
-returns c = ap (λ (r : Done). outcomeOf r (c .before .before .before .remove-sources .last .0) []) (c .done .ensures) ∙ reached-shown (c .before .before .before .before .before .before .before .before .before .args .head) (c .before .before .before .before .before .before .before .before .before .args .table .now) _ [] (c .before .before .before .remove-sources .kept .0) _ _ _ (c .before .before .before .remove-sources .ensures)
+returns c =
+    ap (λ (r : Done). outcomeOf r (c .before .before .before .remove-sources .last .0) []) (c .done .ensures) ∙
+    reached-shown (c .before .before .before .before .before .before .before .before .before .args .head)
+    (c .before .before .before .before .before .before .before .before .before .args .table .now) _ []
+    (c .before .before .before .remove-sources .kept .0) _ _ _ (c .before .before .before .remove-sources .ensures)
 
 pub remove-spec : {M : Type 1} → statement M
 remove-spec =

@@ -14,22 +14,41 @@ cast-rollback : tie.Need-cast-rollback
 cast-rollback c = search needs
 
 rollback-requires : tie.Need-rollback-requires
-rollback-requires c κs = ((well-formed-held _ _ (c .before .before .before .before .before .before .pre .0), c .before .before .before .before .before .before .pre .1 .0), c .before .before .before .before .before .before .pre .1 .1)
+rollback-requires c κs = (
+  (well-formed-held _ _ (c .before .before .before .before .before .before .pre .0), c .before .before .before .before .before .before .pre .1 .0),
+  c .before .before .before .before .before .before .pre .1 .1,
+)
 
 settle-requires : tie.Need-settle-requires
 settle-requires c κs = search needs
 
 done-requires : tie.Need-done-requires
-done-requires c κs = used-fits _ _ _ _ _ (c .before .before .before .before .before .before .before .before .before .before .pre .0) (c .before .before .before .rollback .kept .0) (c .before .before .before .rollback .ensures .holds)
+done-requires c κs =
+    used-fits _ _ _ _ _ (c .before .before .before .before .before .before .before .before .before .before .pre .0)
+    (c .before .before .before .rollback .kept .0) (c .before .before .before .rollback .ensures .holds)
 
 same-length : tie.Need-same-length
 same-length c = search needs
 
 returns : tie.Need-returns
 returns c =
-    let answered : Answer → Outcome = λ a. outcomeOf (doneOf (c .before .before .before .before .before .before .before .before .before .before .before .args .head) (record { answer = a; used = c .before .before .before .before .rollback .result .used; read = c .before .before .before .before .rollback .result .read })) (c .before .before .before .before .rollback .last .0) (c .before .before .before .before .before .before .before .before .before .before .before .args .record .now) in
-    ap (λ (r : Done). outcomeOf r (c .before .before .before .before .rollback .last .0) (c .before .before .before .before .before .before .before .before .before .before .before .args .record .now)) (c .done .ensures)
-    ∙ (ap answered (c .before .settle .ensures) ∙ undone-shown (c .before .before .before .before .before .before .before .before .before .before .before .args .head) (c .before .before .before .before .before .before .before .before .before .before .before .args .table .now) _ (c .before .before .before .before .before .before .before .before .before .before .before .args .record .now) (c .before .before .before .before .rollback .kept .0) _ _ _ (c .before .before .before .before .rollback .ensures))
+    let answered : Answer → Outcome =
+    λ a. outcomeOf
+    (doneOf (c .before .before .before .before .before .before .before .before .before .before .before .args .head)
+    (record
+    { answer = a; used = c .before .before .before .before .rollback .result .used; read = c .before .before .before .before .rollback .result .read }))
+    (c .before .before .before .before .rollback .last .0)
+    (c .before .before .before .before .before .before .before .before .before .before .before .args .record .now) in
+    ap
+    (λ (r : Done). outcomeOf r (c .before .before .before .before .rollback .last .0)
+    (c .before .before .before .before .before .before .before .before .before .before .before .args .record .now))
+    (c .done .ensures)
+    ∙
+    (ap answered (c .before .settle .ensures) ∙ undone-shown
+    (c .before .before .before .before .before .before .before .before .before .before .before .args .head)
+    (c .before .before .before .before .before .before .before .before .before .before .before .args .table .now) _
+    (c .before .before .before .before .before .before .before .before .before .before .before .args .record .now)
+    (c .before .before .before .before .rollback .kept .0) _ _ _ (c .before .before .before .before .rollback .ensures))
 
 pub rollback-spec : {M : Type 1} → statement M
 rollback-spec =
