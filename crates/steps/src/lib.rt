@@ -249,26 +249,12 @@ pub fn prepare(table: &mut [u32], list: &[u32], strip: &[u8], used: usize) -> Re
                 i += 1;
             }
             Fault::Store => {
-                return not_inserted(
-                    table,
-                    list,
-                    strip,
-                    i,
-                    Answer::Store(i as u32),
-                    put.used,
-                    read,
-                );
+                let why = Answer::Store(i as u32);
+                return not_inserted(table, list, strip, i, why, put.used, read);
             }
             Fault::Full => {
-                return not_inserted(
-                    table,
-                    list,
-                    strip,
-                    i,
-                    Answer::Full(i as u32),
-                    put.used,
-                    read,
-                );
+                let why = Answer::Full(i as u32);
+                return not_inserted(table, list, strip, i, why, put.used, read);
             }
         }
     }

@@ -154,8 +154,8 @@ returns c =
 enum-told-4 : tie.Need-enum-told-4 Inv-loop μ-loop
 enum-told-4 c = search needs
 
-cast-t26 : tie.Need-cast-t26 Inv-loop μ-loop
-cast-t26 c = search needs
+cast-t25 : tie.Need-cast-t25 Inv-loop μ-loop
+cast-t25 c = search needs
 
 not-inserted-requires-2 : tie.Need-not-inserted-requires-2 Inv-loop μ-loop
 not-inserted-requires-2 c κs =
@@ -236,7 +236,7 @@ prepare-spec =
     same-length
     returns
     enum-told-4
-    cast-t26
+    cast-t25
     not-inserted-requires-2
     same-length-2
     returns-2
