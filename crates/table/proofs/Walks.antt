@@ -3,17 +3,18 @@ use Prim.Native.Nat.{ℕ, zero, suc, _+_, _-_, _*_, _<_, _≤_}
 use native.Mathlib.Omega.{arith}
 use mathlib.Core.Path.{_≡_, refl, sym, ap, _∙_}
 use mathlib.Core.List.{List, [], _∷_}
-use mathlib.Core.Bool.{Bool, true, false, cond, _&&_, and-true, and-false}
+use mathlib.Core.Bool.{Bool, true, false, cond, _&&_, and-true, and-false, and-assoc}
 use lib.ListN.{length, getD, drop, length-drop, drop-of-length-le}
 use lib.Seq.{getD-take, length-take-le}
 use lib.Dec.{eqb, ltb}
-use borrow.Author.Tests.{ltb-true, lt-ltb}
+use lib.Bits.{bitOr, or-add-and, and-le-l, and-le-r}
+use borrow.Author.Tests.{ltb-true, eqb-true, lt-ltb, eq-eqb}
 use Rattle.rules.specs.declared.Posting.{Posting}
 use Rattle.rules.specs.declared.Order.{Order}
 use Rattle.rules.specs.Postings.{every, ranked, compared, isBefore, chain, ascending, bucket, within}
 use Rattle.rules.specs.Table.{cells, postings}
-use Rattle.laws.proofs.Tests.{and-left}
-use Rattle.laws.proofs.Left.{item-left}
+use Rattle.laws.proofs.Tests.{and-left, and-right, both, equal-tests}
+use Rattle.laws.proofs.Left.{item-left, every-left, every-none}
 use Rattle.laws.proofs.Ranks.{Tri, less, equal, more, tri, ranked-more}
 use Rattle.laws.proofs.Sorted.{chain-before, chain-rest}
 use Rattle.table.specs.Holding.{blank}
@@ -146,3 +147,37 @@ one-most binding key q {n} e = go (eqb binding (q .binding) && eqb key (q .key))
     go : (b : Bool) → n ≡ cond b 1 0 → n ≤ 1
     go true f = omega arith
     go false f = omega arith
+
+-- two numbers are 0 where their bits together are
+pub zero-bits : (a b : ℕ) → eqb 0 (bitOr a b) ≡ (eqb 0 a && eqb 0 b)
+zero-bits a b = equal-tests (eqb 0 (bitOr a b)) (eqb 0 a && eqb 0 b) apart together
+  where
+    apart : eqb 0 (bitOr a b) ≡ true → (eqb 0 a && eqb 0 b) ≡ true
+    apart h =
+        let e = eqb-true 0 (bitOr a b) h in
+        let s = or-add-and a b in
+        let l = and-le-l a b in
+        let r = and-le-r a b in
+        both (eqb 0 a) (eqb 0 b) (eq-eqb 0 a (omega arith)) (eq-eqb 0 b (omega arith))
+
+    together : (eqb 0 a && eqb 0 b) ≡ true → eqb 0 (bitOr a b) ≡ true
+    together h =
+        let ea = eqb-true 0 a (and-left (eqb 0 a) (eqb 0 b) h) in
+        let eb = eqb-true 0 b (and-right (eqb 0 a) (eqb 0 b) h) in
+        let s = or-add-and a b in
+        eq-eqb 0 (bitOr a b) (omega arith)
+
+-- the bits so far, and what is left of the numbers
+pub zeros-turn :
+    (l : List ℕ) (i bits : ℕ) → i < length l →
+    (eqb 0 bits && every (eqb 0) (drop i l)) ≡ (eqb 0 (bitOr bits (getD l i 0)) && every (eqb 0) (drop (i + 1) l))
+zeros-turn l i bits h =
+    rw (every-left (eqb 0) 0 l i (eqb 0 (getD l i 0)) h refl, zero-bits bits (getD l i 0))
+    (sym (and-assoc (eqb 0 bits) (eqb 0 (getD l i 0)) (every (eqb 0) (drop (i + 1) l))))
+
+pub zeros-end :
+    (l : List ℕ) (i bits : ℕ) → length l ≤ i → (eqb 0 bits && every (eqb 0) (drop i l)) ≡ eqb bits 0
+zeros-end l i bits h =
+    rw (every-none (eqb 0) l i h)
+    (and-true (eqb 0 bits) ∙ equal-tests (eqb 0 bits) (eqb bits 0) (λ e. eq-eqb bits 0 (sym (eqb-true 0 bits e)))
+    (λ e. eq-eqb 0 bits (sym (eqb-true bits 0 e))))
