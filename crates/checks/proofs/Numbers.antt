@@ -88,10 +88,10 @@ module _ (cs : List Change) (l : List ℕ) (place : ℕ) (h : place < length l) 
       let k : place ≤ length l = omega arith in
       rw (item-left 0 l place h, among-behind (getD l place 0) place l k, e, add-one place)
 
-  pub record-passes :
+  pub place-passes :
       recordable cs (getD l place 0) ≡ true → among (getD l place 0) (take place l) ≡ false →
       recordLeft cs l place ≡ recordLeft cs l (place + 1)
-  record-passes r a = record-left true (rw (r, a))
+  place-passes r a = record-left true (rw (r, a))
 
   pub record-means-nothing :
       recordable cs (getD l place 0) ≡ false →

@@ -28,9 +28,9 @@ abbrev pub oneDestination : Change → Change → Bool
 oneDestination earlier later = underKey later (destinationOf later) (goesTo earlier)
 
 -- its destination stands among these postings
-abbrev pub arrivesIn : Change → List Posting → Bool
-arrivesIn c ps = underKey c (destinationOf c) (λ d. present d ps)
+abbrev pub destinationIn : Change → List Posting → Bool
+destinationIn c ps = underKey c (destinationOf c) (λ d. present d ps)
 
 -- its source does
-abbrev pub leavesIn : Change → List Posting → Bool
-leavesIn c ps = underKey c (sourceOf c) (λ s. present s ps)
+abbrev pub sourceIn : Change → List Posting → Bool
+sourceIn c ps = underKey c (sourceOf c) (λ s. present s ps)

@@ -22,8 +22,8 @@ ghost use Rattle.rules.specs.Postings.{present};
 ghost use Rattle.rules.specs.Table.{postings};
 ghost use Rattle.rules.specs.Orders.{properKey, properChanges, properLists, properStrip, guards, changes, held, destinationOf, destinations, sources, noChange, Numbered, postingsOf};
 ghost use Rattle.rules.specs.Checks.{firstFailing, heldKey, guarded, isNamed, recordable, among, recordFrom, twiceFrom};
-ghost use Rattle.table.specs.Holding.{Held};
-ghost use Rattle.checks.specs.Walks.{properAt, goesTo, oneDestination, arrivesIn, leavesIn};
+ghost use Rattle.table.specs.Holding.{Ordered};
+ghost use Rattle.checks.specs.Walks.{properAt, goesTo, oneDestination, destinationIn, sourceIn};
 
 // The limits that the code tests: the rules' own numbers.
 pub const MOST_CHANGES: usize = 256;
@@ -271,8 +271,8 @@ pub fn check_twice(list: &[u32]) -> Verdict
 
 // The destination of a change stands in the table.
 fn is_present(table: &[u32], used: usize, change: Change) -> bool
-    requires { ⌜ Held (now table) used ⌝ }
-    ensures { λ r. ⌜ r ≡ arrivesIn change (postings used (now (table .entry))) ⌝ }
+    requires { ⌜ Ordered (now table) used ⌝ }
+    ensures { λ r. ⌜ r ≡ destinationIn change (postings used (now (table .entry))) ⌝ }
 {
     let Key::Named(key) = destination_of(change) else {
         return false;
@@ -282,7 +282,7 @@ fn is_present(table: &[u32], used: usize, change: Change) -> bool
 
 // 8 PRESENT: the first destination that stands in the table.
 pub fn check_present(table: &[u32], used: usize, list: &[u32]) -> Verdict
-    requires { ⌜ Held (now table) used × (length (changes (now list)) ≤ mostChanges) ⌝ }
+    requires { ⌜ Ordered (now table) used × (length (changes (now list)) ≤ mostChanges) ⌝ }
     ensures { λ r. ⌜ r ≡ firstFailing
         (λ (d : Numbered). not (present (d .posting) (postings used (now (table .entry)))))
         (λ i d. Answer.Present (d .number)) 0 (destinations (changes (now (list .entry)))) ⌝ }
@@ -315,7 +315,7 @@ fn is_destination(list: &[u32], p: Posting) -> bool
 
 // The source of a change is a destination of the list.
 fn overlaps(list: &[u32], change: Change) -> bool
-    ensures { λ r. ⌜ r ≡ leavesIn change (postingsOf (destinations (changes (now (list .entry))))) ⌝ }
+    ensures { λ r. ⌜ r ≡ sourceIn change (postingsOf (destinations (changes (now (list .entry))))) ⌝ }
 {
     let Key::Named(key) = source_of(change) else {
         return false;

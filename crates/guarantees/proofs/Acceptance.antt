@@ -13,7 +13,7 @@ use Rattle.laws.proofs.Answers.{told-injective}
 use Rattle.history.specs.Acceptance.{Acceptable, PublishAnswers, PrepareAnswers, RollbackAnswers, RemovalAnswers, CountAnswers, Leaves}
 use Rattle.history.proofs.Acceptance as law
 use Rattle.publish.specs.declared.Done.{Done}
-use Rattle.publish.specs.Promises.{seen, seenOf, outcomeOf, Prepares, RollsBack, RemovesSources, Publishes, Counts}
+use Rattle.publish.specs.Promises.{seen, seenOf, outcomeOf, PreparePromise, RollbackPromise, RemovalPromise, PublishPromise, CountPromise}
 use Rattle.publish.proofs.Outcomes.{seen-outcome}
 
 -- a result has the answer of the outcome that its promise says
@@ -24,30 +24,30 @@ exchanged : {P : Answer → Type 0} (a b : Answer) → a ≡ b → ((c : Answer)
 exchanged a b e f c = ((λ h. f c .0 (sym e ∙ h)), (λ k. e ∙ f c .1 k))
 
 module _ (head : Head) (table : List ℕ) (c : Call) (r : Done) (t l : List ℕ) where
-  pub prepare-exactly : Prepares head table c r t l → (a : Answer) → (r .answer ≡ a) ↔ PrepareAnswers head table c a
+  pub prepare-exactly : PreparePromise head table c r t l → (a : Answer) → (r .answer ≡ a) ↔ PrepareAnswers head table c a
   prepare-exactly k = exchanged _ _ (answer-of r t l (prepareOf head table c) k) (law.prepare-exactly head table c)
 
-  pub rollback-exactly : RollsBack head table c r t l → (a : Answer) → (r .answer ≡ a) ↔ RollbackAnswers head table c a
+  pub rollback-exactly : RollbackPromise head table c r t l → (a : Answer) → (r .answer ≡ a) ↔ RollbackAnswers head table c a
   rollback-exactly k = exchanged _ _ (answer-of r t l (rollbackOf head table c) k) (law.rollback-exactly head table c)
 
-  pub removal-exactly : RemovesSources head table c r t l → (a : Answer) → (r .answer ≡ a) ↔ RemovalAnswers head table c a
+  pub removal-exactly : RemovalPromise head table c r t l → (a : Answer) → (r .answer ≡ a) ↔ RemovalAnswers head table c a
   removal-exactly k = exchanged _ _ (answer-of r t l (removalOf head table c) k) (law.removal-exactly head table c)
 
-  pub publish-exactly : Publishes head table c r t l → (a : Answer) → (r .answer ≡ a) ↔ PublishAnswers head table c a
+  pub publish-exactly : PublishPromise head table c r t l → (a : Answer) → (r .answer ≡ a) ↔ PublishAnswers head table c a
   publish-exactly k = exchanged _ _ (answer-of r t l (publishOf head table c) k) (law.publish-exactly head table c)
 
   -- a publish is accepted exactly when no check applies, there is room, and every byte that it reads is 0
-  pub accepted-exactly : Publishes head table c r t l → (isAccepted (r .answer) ≡ true) ↔ Acceptable head table c
+  pub accepted-exactly : PublishPromise head table c r t l → (isAccepted (r .answer) ≡ true) ↔ Acceptable head table c
   accepted-exactly k =
       let e : r .answer ≡ publishOf head table c .answer = answer-of r t l (publishOf head table c) k in
       rw e (law.accepted-exactly head table c)
 
   -- and then leaves the postings and destinations less the sources
-  pub accepted-leaves : Publishes head table c r t l → Acceptable head table c → Leaves head table c (outcomeOf r t l)
+  pub accepted-leaves : PublishPromise head table c r t l → Acceptable head table c → Leaves head table c (outcomeOf r t l)
   accepted-leaves k a = rw (seen-outcome r t l (publishOf head table c) k) (law.accepted-leaves head table c a)
 
 pub count-exactly :
-    (head : Head) (table : List ℕ) (binding key : ℕ) (b : Answer) → Counts head table binding key b → (a : Answer) →
+    (head : Head) (table : List ℕ) (binding key : ℕ) (b : Answer) → CountPromise head table binding key b → (a : Answer) →
     (b ≡ a) ↔ CountAnswers head table binding key a
 count-exactly head table binding key b k =
     exchanged b _ (told-injective b (countOf head table binding key) k) (law.count-exactly head table binding key)

@@ -17,8 +17,8 @@ use Rattle.history.specs.History.{Index, published, indexOf, after, outcomes, u
 use Rattle.history.proofs.History.{after-append, right-or-withheld}
 use Rattle.publish.proofs.Outcomes.{seen-outcome}
 use Rattle.publish.specs.declared.Done.{Done}
-use Rattle.publish.specs.Promises.{Publishes}
-use Rattle.guarantees.specs.Runs.{Made, outcome, left, Kept, Run, none, next, end, calls, seenAfter, taken, sound, Right, Withheld, RightOrWithheld}
+use Rattle.publish.specs.Promises.{PublishPromise}
+use Rattle.guarantees.specs.Runs.{Made, outcome, left, Kept, Run, none, next, end, calls, seenAfter, taken, sound, CallsRight, CallsWithheld, CallsRightOrWithheld}
 
 -- a call that kept its promise is the rules' publish
 kept-published : (x : Index) (m : Made) → Kept x m → published x (m .call) ≡ outcome m
@@ -76,7 +76,7 @@ module _ (x : Index) (start : List Posting) (h : Holds x start) (ms : List Made)
   whole : claim.RightOrWithheld x start (calls ms)
   whole = right-or-withheld x start h (calls ms)
 
-  right-made : sound ms ≡ true → Right x start ms
+  right-made : sound ms ≡ true → CallsRight x start ms
   right-made s =
       let w = whole .right (run-sound x ms r ∙ s) in
       let e : after x (calls ms) ≡ end x ms = run-end x ms r in
@@ -98,7 +98,7 @@ module _ (x : Index) (start : List Posting) (h : Holds x start) (ms : List Made)
             sym (run-outcomes y ns ry) ∙ (rw (same, ← a) (w .records y hy al) ∙ run-accepted-outcomes x ms r);
       }
 
-  withheld-made : sound ms ≡ false → Withheld x ms
+  withheld-made : sound ms ≡ false → CallsWithheld x ms
   withheld-made s =
       let w = whole .withheld (run-sound x ms r ∙ s) in
       let e : after x (calls ms) ≡ end x ms = run-end x ms r in
@@ -121,7 +121,7 @@ run-before (m ∷ ms) ns (next k r) = next k (run-before ms ns r)
 
 module _ (x : Index) (start : List Posting) (h : Holds x start) where
   -- RIGHT OR WITHHELD: any calls of publish, under any lists, guards and strips
-  pub calls-right-or-withheld : (ms : List Made) → Run x ms → RightOrWithheld x start ms
+  pub calls-right-or-withheld : (ms : List Made) → Run x ms → CallsRightOrWithheld x start ms
   calls-right-or-withheld ms r =
       record {
         right = λ before later e s. right-made x start h before (run-before before later (rw e at r)) s;
@@ -131,12 +131,12 @@ module _ (x : Index) (start : List Posting) (h : Holds x start) where
 -- and from an empty table: well formed, unpoisoned, used 0
 pub calls-right-or-withheld-from-empty :
     (x : Index) → wellFormed (x .head) (x .table) ≡ true → x .head .poisoned ≡ 0 → x .head .used ≡ 0 → (ms : List Made) → Run x ms →
-    RightOrWithheld x [] ms
+    CallsRightOrWithheld x [] ms
 calls-right-or-withheld-from-empty x f p u = calls-right-or-withheld x [] (record { formed = f; healthy = p; just = rw u })
 
 -- what publish promises on return is what a run asks of each call
 pub promise-kept :
-    (head : Head) (table : List ℕ) (c : Call) (r : Done) (t l : List ℕ) → Publishes head table c r t l →
+    (head : Head) (table : List ℕ) (c : Call) (r : Done) (t l : List ℕ) → PublishPromise head table c r t l →
     Kept (record { head = head; table = table }) (record { call = c; result = r; table = t; recordList = l })
 promise-kept head table c r t l k = k
 

@@ -11,7 +11,7 @@ use Rattle.rules.specs.Checks.{Call}
 use Rattle.rules.specs.Calls.{Outcome, asBefore}
 use Rattle.history.specs.History.{Index, postingsIn, said, saidOf, ownCount, holding, quiet, Holds, Alike, CountSaid}
 use Rattle.publish.specs.declared.Done.{Done}
-use Rattle.publish.specs.Promises.{outcomeOf, Publishes, Counts}
+use Rattle.publish.specs.Promises.{outcomeOf, PublishPromise, CountPromise}
 
 -- a call of publish that was made: what it was lent, the result that it returned, and the table and record list as it left them
 pub record Made : Type 0 where
@@ -30,7 +30,7 @@ left m = record { head = m .result .head; table = m .table }
 
 -- it kept the promise of publish on this table and head
 abbrev pub Kept : Index → Made → Type 0
-Kept x m = Publishes (x .head) (x .table) (m .call) (m .result) (m .table) (m .recordList)
+Kept x m = PublishPromise (x .head) (x .table) (m .call) (m .result) (m .table) (m .recordList)
 
 -- calls one after the other, each on the table and head that the one before it left, and each kept its promise
 pub data Run : Index → List Made → Type 0 where
@@ -61,13 +61,13 @@ sound [] = true
 sound (m ∷ ms) = not (poisons (m .result .answer)) && sound ms
 
 -- until a call answers 12 or 13
-pub record Right (x : Index) (start : List Posting) (ms : List Made) : Type 0 where
+pub record CallsRight (x : Index) (start : List Posting) (ms : List Made) : Type 0 where
   -- table and head are what the accepted calls alone say, in order: destinations added, sources taken away
   pub table : end x ms ≡ holding x (said (calls (taken ms)) start)
   pub set : (p : Posting) → present p (postingsIn (end x ms)) ≡ saidOf (calls (taken ms)) p (present p start)
   -- each count that is answered is that table's own
   pub counts :
-      (binding key : ℕ) (a : Answer) → Counts (end x ms .head) (end x ms .table) binding key a →
+      (binding key : ℕ) (a : Answer) → CountPromise (end x ms .head) (end x ms .table) binding key a →
       a ≡ ownCount x (said (calls (taken ms)) start) binding key
   -- and its number is that of the rows that the accepted calls say
   pub rows :
@@ -83,17 +83,17 @@ pub record Right (x : Index) (start : List Posting) (ms : List Made) : Type 0 wh
       seenAfter ns ≡ seenAfter (taken ms)
 
 -- after a call has answered 12 or 13
-pub record Withheld (x : Index) (ms : List Made) : Type 0 where
+pub record CallsWithheld (x : Index) (ms : List Made) : Type 0 where
   -- every publish that is made is refused as poisoned, and changes nothing
   pub publishes :
       (m : Made) → Kept (end x ms) m →
       outcome m ≡ asBefore (end x ms .head) (end x ms .table) (m .call .recordList) Answer.Poisoned
   -- so is every count
-  pub counts : (binding key : ℕ) (a : Answer) → Counts (end x ms .head) (end x ms .table) binding key a → a ≡ Answer.Poisoned
+  pub counts : (binding key : ℕ) (a : Answer) → CountPromise (end x ms .head) (end x ms .table) binding key a → a ≡ Answer.Poisoned
   -- and table and head stay fixed, whatever is called
   pub fixed : (more : List Made) → Run (end x ms) more → end (end x ms) more ≡ end x ms
 
 -- any calls: right as long as none has answered 12 or 13, and then withheld
-pub record RightOrWithheld (x : Index) (start : List Posting) (ms : List Made) : Type 0 where
-  pub right : (before later : List Made) → ms ≡ before ++ later → sound before ≡ true → Right x start before
-  pub withheld : sound ms ≡ false → Withheld x ms
+pub record CallsRightOrWithheld (x : Index) (start : List Posting) (ms : List Made) : Type 0 where
+  pub right : (before later : List Made) → ms ≡ before ++ later → sound before ≡ true → CallsRight x start before
+  pub withheld : sound ms ≡ false → CallsWithheld x ms

@@ -8,7 +8,7 @@ use Rattle.rules.specs.Checks.{Call}
 use Rattle.rules.specs.Calls.{Outcome, prepareOf, rollbackOf, removalOf, publishOf}
 use Rattle.laws.proofs.Answers.{told-injective}
 use Rattle.publish.specs.declared.Done.{Done}
-use Rattle.publish.specs.Promises.{Seen, seen, seenOf, outcomeOf, Prepares, RollsBack, RemovesSources, Publishes, Counts}
+use Rattle.publish.specs.Promises.{Seen, seen, seenOf, outcomeOf, PreparePromise, RollbackPromise, RemovalPromise, PublishPromise, CountPromise}
 
 -- what is seen determines the outcome: numbers tell answers apart
 pub seen-outcome : (r : Done) (t l : List ℕ) (o : Outcome) → seen r t l ≡ seenOf o → outcomeOf r t l ≡ o
@@ -40,19 +40,19 @@ alike r r′ t t′ l l′ o e f =
     }
 
 module _ (head : Head) (table : List ℕ) (c : Call) (r r′ : Done) (t t′ l l′ : List ℕ) where
-  pub prepare-one-outcome : Prepares head table c r t l → Prepares head table c r′ t′ l′ → OneOutcome r r′ t t′ l l′
+  pub prepare-one-outcome : PreparePromise head table c r t l → PreparePromise head table c r′ t′ l′ → OneOutcome r r′ t t′ l l′
   prepare-one-outcome e f = alike r r′ t t′ l l′ (prepareOf head table c) e f
 
-  pub rollback-one-outcome : RollsBack head table c r t l → RollsBack head table c r′ t′ l′ → OneOutcome r r′ t t′ l l′
+  pub rollback-one-outcome : RollbackPromise head table c r t l → RollbackPromise head table c r′ t′ l′ → OneOutcome r r′ t t′ l l′
   rollback-one-outcome e f = alike r r′ t t′ l l′ (rollbackOf head table c) e f
 
-  pub removal-one-outcome : RemovesSources head table c r t l → RemovesSources head table c r′ t′ l′ → OneOutcome r r′ t t′ l l′
+  pub removal-one-outcome : RemovalPromise head table c r t l → RemovalPromise head table c r′ t′ l′ → OneOutcome r r′ t t′ l l′
   removal-one-outcome e f = alike r r′ t t′ l l′ (removalOf head table c) e f
 
-  pub publish-one-outcome : Publishes head table c r t l → Publishes head table c r′ t′ l′ → OneOutcome r r′ t t′ l l′
+  pub publish-one-outcome : PublishPromise head table c r t l → PublishPromise head table c r′ t′ l′ → OneOutcome r r′ t t′ l l′
   publish-one-outcome e f = alike r r′ t t′ l l′ (publishOf head table c) e f
 
 pub count-one-outcome :
-    (head : Head) (table : List ℕ) (binding key : ℕ) (a b : Answer) → Counts head table binding key a →
-    Counts head table binding key b → a ≡ b
+    (head : Head) (table : List ℕ) (binding key : ℕ) (a b : Answer) → CountPromise head table binding key a →
+    CountPromise head table binding key b → a ≡ b
 count-one-outcome head table binding key a b e f = told-injective a b (e ∙ sym f)

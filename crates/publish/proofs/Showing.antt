@@ -18,11 +18,11 @@ use Rattle.rules.specs.Publication.{Undone, Stage, removing, rolledBack, thenSo
 use Rattle.rules.specs.Calls.{headWith, shown, written, recordAfter}
 use Rattle.laws.proofs.Tests.{by-cases}
 use Rattle.laws.proofs.Flat.{well-formed-parts}
-use Rattle.table.specs.Holding.{Holds}
-use Rattle.table.proofs.Keeping.{holds-postings}
+use Rattle.table.specs.Holding.{Carries}
+use Rattle.table.proofs.Keeping.{carries-postings}
 use Rattle.steps.specs.declared.Back.{Back}
 use Rattle.steps.specs.declared.Reached.{Reached}
-use Rattle.steps.specs.Leaving.{Undoes, Reaches}
+use Rattle.steps.specs.Leaving.{UndoneIn, StageIn}
 use Rattle.publish.specs.declared.Done.{Done}
 use Rattle.publish.specs.Promises.{outcomeOf}
 
@@ -31,9 +31,9 @@ abbrev pub doneOf : Head → Reached → Done
 doneOf head r =
     record { head = headWith head (r .used) (cond (poisons (r .answer)) 1 (head .poisoned)); answer = r .answer }
 
--- a table within its limit holds few postings
+-- a table within its limit carries few postings
 pub used-fits :
-    (head : Head) (t₀ t : List ℕ) (used : ℕ) (ps : List Posting) → wellFormed head t₀ ≡ true → length t ≡ length t₀ → Holds t used ps →
+    (head : Head) (t₀ t : List ℕ) (used : ℕ) (ps : List Posting) → wellFormed head t₀ ≡ true → length t ≡ length t₀ → Carries t used ps →
     used < 2 ^ 32
 used-fits head t₀ t used ps w l h =
     let s = well-formed-parts head t₀ w .size in
@@ -42,20 +42,20 @@ used-fits head t₀ t used ps w l h =
 
 module _ (head : Head) (t₀ t list : List ℕ) (len : length t ≡ length t₀) where
   pub reached-shown :
-      (s : Stage) (r : Reached) (most : ℕ) → Reaches s r t most → outcomeOf (doneOf head r) t list ≡ shown head t₀ list s
+      (s : Stage) (r : Reached) (most : ℕ) → StageIn s r t most → outcomeOf (doneOf head r) t list ≡ shown head t₀ list s
   reached-shown s r most h =
-      let laid : t ≡ laidOut (length t₀) (s .postings) = h .holds .laid ∙ ap (λ (n : ℕ). laidOut n (s .postings)) len in
+      let laid : t ≡ laidOut (length t₀) (s .postings) = h .carries .laid ∙ ap (λ (n : ℕ). laidOut n (s .postings)) len in
       λ i.
       record {
         answer = h .answer i;
-        head = headWith head (h .holds .count i) (cond (poisons (h .answer i)) 1 (head .poisoned));
+        head = headWith head (h .carries .count i) (cond (poisons (h .answer i)) 1 (head .poisoned));
         table = laid i;
         recordList = list;
       }
 
   -- rollback settles what its undo says
   pub undone-shown :
-      (u : Undone) (b : Back) (most : ℕ) → Undoes u b t most →
+      (u : Undone) (b : Back) (most : ℕ) → UndoneIn u b t most →
       outcomeOf (doneOf head (record { answer = settled (b .verdict) (Answer.Accepted 0); used = b .used; read = b .read }))
       t list ≡ shown head t₀ list (rolledBack u)
   undone-shown u b most h =
@@ -63,13 +63,13 @@ module _ (head : Head) (t₀ t list : List ℕ) (len : length t ≡ length t₀)
       (record { answer = settled (b .verdict) (Answer.Accepted 0); used = b .used; read = b .read }) most
       (record {
         answer = ap (λ (v : Verdict). settled v (Answer.Accepted 0)) (h .verdict);
-        holds = h .holds;
+        carries = h .carries;
         read = h .read;
         few = h .few;
       })
 
 -- after prepare: with the record written where all are in, and as it was where not
-module _ (head : Head) (t₀ t list₀ : List ℕ) (ds : List Numbered) (s : Stage) (r : Reached) (most : ℕ) (h : Reaches s r t most) where
+module _ (head : Head) (t₀ t list₀ : List ℕ) (ds : List Numbered) (s : Stage) (r : Reached) (most : ℕ) (h : StageIn s r t most) where
   said : (b : Bool) → isAccepted (r .answer) ≡ b → isAccepted (s .answer) ≡ b
   said b e = ap isAccepted (sym (h .answer)) ∙ e
 
@@ -94,11 +94,11 @@ module _ (head : Head) (t₀ t list₀ : List ℕ) (ds : List Numbered) (s : Sta
     pub published-in :
         (list t′ : List ℕ) (r′ : Reached) (most′ : ℕ) → length t′ ≡ length t₀ → isAccepted (r .answer) ≡ true →
         list ≡ written (numbersOf ds) list₀ →
-        Reaches (removing strip (r .answer) ss (r .read) (postings (r .used) t)) r′ t′ most′ →
+        StageIn (removing strip (r .answer) ss (r .read) (postings (r .used) t)) r′ t′ most′ →
         outcomeOf (doneOf head r′) t′ list ≡ shown head t₀ (recordAfter s ds list₀) (thenSources strip ss s)
     published-in list t′ r′ most′ len e w o =
         let same : removing strip (r .answer) ss (r .read) (postings (r .used) t) ≡ thenSources strip ss s =
-        ap (λ (ps : List Posting). removing strip (r .answer) ss (r .read) ps) (holds-postings _ _ _ (h .holds))
+        ap (λ (ps : List Posting). removing strip (r .answer) ss (r .read) ps) (carries-postings _ _ _ (h .carries))
         ∙ (ap (λ (n : ℕ). removing strip (r .answer) ss n (s .postings)) (h .read)
         ∙ (ap (λ (a : Answer). removing strip a ss (s .read) (s .postings)) (h .answer)
         ∙ ap (λ (b : Bool). cond b (removing strip (s .answer) ss (s .read) (s .postings)) s) (sym (said true e)))) in

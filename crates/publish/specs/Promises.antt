@@ -30,18 +30,18 @@ abbrev pub outcomeOf : Done → List ℕ → List ℕ → Outcome
 outcomeOf r table list = record { answer = r .answer; head = r .head; table = table; recordList = list }
 
 -- the promises: at entry head, table and what is lent; on return the result, the table and the record list
-abbrev pub Prepares : Head → List ℕ → Call → Done → List ℕ → List ℕ → Type 0
-Prepares head table c r table′ list′ = seen r table′ list′ ≡ seenOf (prepareOf head table c)
+abbrev pub PreparePromise : Head → List ℕ → Call → Done → List ℕ → List ℕ → Type 0
+PreparePromise head table c r table′ list′ = seen r table′ list′ ≡ seenOf (prepareOf head table c)
 
-abbrev pub RollsBack : Head → List ℕ → Call → Done → List ℕ → List ℕ → Type 0
-RollsBack head table c r table′ list′ = seen r table′ list′ ≡ seenOf (rollbackOf head table c)
+abbrev pub RollbackPromise : Head → List ℕ → Call → Done → List ℕ → List ℕ → Type 0
+RollbackPromise head table c r table′ list′ = seen r table′ list′ ≡ seenOf (rollbackOf head table c)
 
-abbrev pub RemovesSources : Head → List ℕ → Call → Done → List ℕ → List ℕ → Type 0
-RemovesSources head table c r table′ list′ = seen r table′ list′ ≡ seenOf (removalOf head table c)
+abbrev pub RemovalPromise : Head → List ℕ → Call → Done → List ℕ → List ℕ → Type 0
+RemovalPromise head table c r table′ list′ = seen r table′ list′ ≡ seenOf (removalOf head table c)
 
-abbrev pub Publishes : Head → List ℕ → Call → Done → List ℕ → List ℕ → Type 0
-Publishes head table c r table′ list′ = seen r table′ list′ ≡ seenOf (publishOf head table c)
+abbrev pub PublishPromise : Head → List ℕ → Call → Done → List ℕ → List ℕ → Type 0
+PublishPromise head table c r table′ list′ = seen r table′ list′ ≡ seenOf (publishOf head table c)
 
 -- a count only reads: its answer is all that is seen
-abbrev pub Counts : Head → List ℕ → ℕ → ℕ → Answer → Type 0
-Counts head table binding key a = toldOf a ≡ toldOf (countOf head table binding key)
+abbrev pub CountPromise : Head → List ℕ → ℕ → ℕ → Answer → Type 0
+CountPromise head table binding key a = toldOf a ≡ toldOf (countOf head table binding key)

@@ -8,7 +8,7 @@ use rules::Head;
 use rules::Verdict;
 ghost use mathlib.Core.List.{[]};
 ghost use Rattle.refusals.specs.Lending.{lending};
-ghost use Rattle.publish.specs.Promises.{Prepares, RollsBack, RemovesSources, Publishes, Counts};
+ghost use Rattle.publish.specs.Promises.{PreparePromise, RollbackPromise, RemovalPromise, PublishPromise, CountPromise};
 
 // What a call answers, and the head that it leaves.
 pub struct Done {
@@ -26,7 +26,7 @@ pub fn prepare_index_destinations(
     strip: &[u8],
     record: &mut [u32],
 ) -> Done
-    ensures { λ r. ⌜ Prepares head (now (table .entry))
+    ensures { λ r. ⌜ PreparePromise head (now (table .entry))
         (lending (now (changes .entry)) (now (guards .entry)) (now (strip .entry)) (now («record» .entry))) r
         (now (table .exit)) (now («record» .exit)) ⌝ }
 {
@@ -45,7 +45,7 @@ pub fn rollback_index_destinations(
     strip: &[u8],
     record: &[u32],
 ) -> Done
-    ensures { λ r. ⌜ RollsBack head (now (table .entry))
+    ensures { λ r. ⌜ RollbackPromise head (now (table .entry))
         (lending (now (changes .entry)) (now (guards .entry)) (now (strip .entry)) (now («record» .entry))) r
         (now (table .exit)) (now («record» .entry)) ⌝ }
 {
@@ -63,7 +63,7 @@ pub fn remove_index_sources(
     guards: &[u32],
     strip: &[u8],
 ) -> Done
-    ensures { λ r. ⌜ RemovesSources head (now (table .entry))
+    ensures { λ r. ⌜ RemovalPromise head (now (table .entry))
         (lending (now (changes .entry)) (now (guards .entry)) (now (strip .entry)) []) r (now (table .exit)) [] ⌝ }
 {
     match refusals::of_removal(head, table, changes, guards, strip) {
@@ -81,7 +81,7 @@ pub fn publish(
     strip: &[u8],
     record: &mut [u32],
 ) -> Done
-    ensures { λ r. ⌜ Publishes head (now (table .entry))
+    ensures { λ r. ⌜ PublishPromise head (now (table .entry))
         (lending (now (changes .entry)) (now (guards .entry)) (now (strip .entry)) (now («record» .entry))) r
         (now (table .exit)) (now («record» .exit)) ⌝ }
 {
@@ -93,7 +93,7 @@ pub fn publish(
 
 // How many postings a binding and key have.
 pub fn count(head: Head, table: &[u32], binding: u32, key: u32) -> Answer
-    ensures { λ r. ⌜ Counts head (now (table .entry)) binding key r ⌝ }
+    ensures { λ r. ⌜ CountPromise head (now (table .entry)) binding key r ⌝ }
 {
     match refusals::of_count(head, table, binding) {
         Verdict::Refused(answer) => answer,

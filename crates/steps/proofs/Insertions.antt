@@ -16,11 +16,11 @@ use Rattle.rules.specs.Orders.{Numbered, byteAt, named, destinationOf, destinat
 use Rattle.rules.specs.Storage.{insertion}
 use Rattle.rules.specs.Publication.{undoing, notInserted, byFault, preparing}
 use Rattle.changes.proofs.Walk.{destinations-left, destinations-none}
-use Rattle.table.specs.Holding.{Held}
-use Rattle.table.proofs.Keeping.{holds-postings, holds-held}
+use Rattle.table.specs.Holding.{Ordered}
+use Rattle.table.proofs.Keeping.{carries-postings, carries-ordered}
 use Rattle.steps.specs.declared.Inserted.{Inserted}
 use Rattle.steps.specs.declared.Reached.{Reached}
-use Rattle.steps.specs.Leaving.{Inserts, Reaches, backward, inOrder}
+use Rattle.steps.specs.Leaving.{InsertionIn, StageIn, backward, inOrder}
 
 -- a prepare that has come up to i, with so many postings inserted
 pub record Preparing (cs : List Change) (strip : List ℕ) (used₀ : ℕ) (t₀ t : List ℕ) (used read inserted i : ℕ) : Type 0 where
@@ -29,7 +29,7 @@ pub record Preparing (cs : List Change) (strip : List ℕ) (used₀ : ℕ) (t₀
   pub some : inserted ≤ i
   pub count : inserted ≡ length (backward inOrder i cs)
   pub len : length t ≡ length t₀
-  pub held : Held t used
+  pub ordered : Ordered t used
   pub is :
       preparing (capacity t₀) strip (destinationsFrom 0 cs) [] 0 (postings used₀ t₀) ≡
       preparing (capacity t₀) strip (destinationsFrom i (drop i cs)) (backward inOrder i cs) read (postings used t)
@@ -48,7 +48,7 @@ unfolding backward
 none-back cs = refl
 
 pub prepare-start :
-    (cs : List Change) (strip : List ℕ) (used : ℕ) (t : List ℕ) → Held t used → Preparing cs strip used t t used 0 0 0
+    (cs : List Change) (strip : List ℕ) (used : ℕ) (t : List ℕ) → Ordered t used → Preparing cs strip used t t used 0 0 0
 prepare-start cs strip used t h =
     record {
       low = omega arith;
@@ -56,7 +56,7 @@ prepare-start cs strip used t h =
       some = omega arith;
       count = ap length (none-back cs);
       len = refl;
-      held = h;
+      ordered = h;
       is = ap (λ done. preparing (capacity t) strip (destinationsFrom 0 cs) done 0 (postings used t)) (none-back cs);
     }
 
@@ -72,7 +72,7 @@ module _ {cs : List Change} {strip : List ℕ} {used₀ : ℕ} {t₀ t : List �
     (z : Preparing cs strip used₀ t₀ t used read inserted i) where
   pub prepare-end :
       length cs ≤ i →
-      Reaches (preparing (capacity t₀) strip (destinationsFrom 0 cs) [] 0 (postings used₀ t₀))
+      StageIn (preparing (capacity t₀) strip (destinationsFrom 0 cs) [] 0 (postings used₀ t₀))
       (record { answer = Answer.Accepted inserted; used = used; read = read }) t (length cs * 2 + 1)
   unfolding preparing
   prepare-end h =
@@ -81,7 +81,7 @@ module _ {cs : List Change} {strip : List ℕ} {used₀ : ℕ} {t₀ t : List �
       rw
       (z .is ∙ ap (λ ds. preparing (capacity t₀) strip ds (backward inOrder i cs) read (postings used t))
       (destinations-none cs i h))
-      (record { answer = ap Answer.Accepted (z .count); holds = z .held; read = refl; few = omega arith })
+      (record { answer = ap Answer.Accepted (z .count); carries = z .ordered; read = refl; few = omega arith })
 
   module _ (h : i < length cs) (c : Change) (ec : c ≡ getD cs i noChange) where
     left :
@@ -106,7 +106,7 @@ module _ {cs : List Change} {strip : List ℕ} {used₀ : ℕ} {t₀ t : List �
           some = omega arith;
           count = z .count ∙ ap length (sym b);
           len = z .len;
-          held = z .held;
+          ordered = z .ordered;
           is =
               left Key.Missing e
               ∙ ap
@@ -115,7 +115,7 @@ module _ {cs : List Change} {strip : List ℕ} {used₀ : ℕ} {t₀ t : List �
         }
 
     module _ (key byte : ℕ) (t′ : List ℕ) (r : Inserted) (ek : destinationOf c ≡ Key.Named key) (eb : byte ≡ byteAt strip read)
-        (o : Inserts (insertion byte (capacity t) (record { binding = c .binding; key = key; row = c .row }) (postings used t)) r t′) where
+        (o : InsertionIn (insertion byte (capacity t) (record { binding = c .binding; key = key; row = c .row }) (postings used t)) r t′) where
       stepped :
           (fault : Fault) → r .fault ≡ fault →
           preparing (capacity t₀) strip (destinationsFrom 0 cs) [] 0 (postings used₀ t₀) ≡
@@ -125,7 +125,7 @@ module _ {cs : List Change} {strip : List ℕ} {used₀ : ℕ} {t₀ t : List �
       stepped fault e =
           left (Key.Named key) ek
           ∙ (preparing-step (capacity t₀) strip (record { number = i; posting = record { binding = c .binding; key = key; row = c .row } }) (destinationsFrom (i + 1) (drop (i + 1) cs)) (backward inOrder i cs) read (postings used t)
-          ∙ rw (← z .len, ← eb, sym (o .fault) ∙ e, holds-postings _ _ _ (o .holds), backward-more cs i c (Key.Named key) ec ek))
+          ∙ rw (← z .len, ← eb, sym (o .fault) ∙ e, carries-postings _ _ _ (o .carries), backward-more cs i c (Key.Named key) ec ek))
 
       pub prepare-clear :
           r .fault ≡ Fault.Nothing → length t′ ≡ length t →
@@ -141,7 +141,7 @@ module _ {cs : List Change} {strip : List ℕ} {used₀ : ℕ} {t₀ t : List �
             some = omega arith;
             count = omega arith;
             len = l ∙ z .len;
-            held = holds-held _ _ _ (o .holds);
+            ordered = carries-ordered _ _ _ (o .carries);
             is = stepped Fault.Nothing e;
           }
 
@@ -152,12 +152,12 @@ module _ {cs : List Change} {strip : List ℕ} {used₀ : ℕ} {t₀ t : List �
           (preparing (capacity t₀) strip (destinationsFrom (i + 1) (drop (i + 1) cs)) (backward inOrder (i + 1) cs)
           (read + 1) (postings (r .used) t′))
           ≡ notInserted why i (undoing strip (backward inOrder i cs) Verdict.Passes (read + 1) (postings (r .used) t′)) →
-          Reaches
+          StageIn
           (notInserted why i (undoing strip (backward inOrder i cs) Verdict.Passes (read + 1) (postings (r .used) t′)))
           reached t″ (read + 1 + i) →
-          Reaches (preparing (capacity t₀) strip (destinationsFrom 0 cs) [] 0 (postings used₀ t₀)) reached t″
+          StageIn (preparing (capacity t₀) strip (destinationsFrom 0 cs) [] 0 (postings used₀ t₀)) reached t″
           (length cs * 2 + 1)
       prepare-stop fault why reached t″ e same u =
           let f = z .few in
           let m = u .few in
-          rw (stepped fault e ∙ same) (record { answer = u .answer; holds = u .holds; read = u .read; few = omega arith })
+          rw (stepped fault e ∙ same) (record { answer = u .answer; carries = u .carries; read = u .read; few = omega arith })

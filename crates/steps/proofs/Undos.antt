@@ -18,19 +18,19 @@ use Rattle.rules.specs.Storage.{removal}
 use Rattle.rules.specs.Postings.{every}
 use Rattle.rules.specs.Publication.{Undone, undoing, whyNot, notInserted}
 use Rattle.laws.proofs.Tests.{and-left, and-right}
-use Rattle.table.specs.Holding.{Held}
-use Rattle.table.proofs.Keeping.{holds-postings, holds-held}
+use Rattle.table.specs.Holding.{Ordered}
+use Rattle.table.proofs.Keeping.{carries-postings, carries-ordered}
 use Rattle.steps.specs.declared.Removed.{Removed}
 use Rattle.steps.specs.declared.Back.{Back}
-use Rattle.steps.specs.Leaving.{Removes, Undoes, UndoesOne, Reaches, backward, asRecorded}
+use Rattle.steps.specs.Leaving.{RemovalIn, UndoneIn, OneUndone, StageIn, backward, asRecorded}
 
 -- a change with no destination leaves all as it is
 pub undone-none :
-    (strip : List ℕ) (number : ℕ) (c : Change) (from : Back) (t : List ℕ) → destinationOf c ≡ Key.Missing → Held t (from .used) →
-    UndoesOne strip number c from t from t
+    (strip : List ℕ) (number : ℕ) (c : Change) (from : Back) (t : List ℕ) → destinationOf c ≡ Key.Missing → Ordered t (from .used) →
+    OneUndone strip number c from t from t
 undone-none strip number c from t e h =
     record {
-      held = h;
+      ordered = h;
       few = omega arith;
       rest =
           λ ds. ap (λ (k : Key). undoing strip (named number c k ds) (from .verdict) (from .read) (postings (from .used) t))
@@ -50,22 +50,22 @@ undoing-step strip d ds v read ps = refl
 pub undone-one :
     (strip : List ℕ) (number : ℕ) (c : Change) (key byte : ℕ) (from : Back) (t t′ : List ℕ) (r : Removed) (b : Bool) →
     destinationOf c ≡ Key.Named key → byte ≡ byteAt strip (from .read) →
-    Removes (removal byte (record { binding = c .binding; key = key; row = c .row }) (postings (from .used) t)) r t′ → r
+    RemovalIn (removal byte (record { binding = c .binding; key = key; row = c .row }) (postings (from .used) t)) r t′ → r
     .failed ≡ b →
-    UndoesOne strip number c from t
+    OneUndone strip number c from t
     (record
     { verdict = cond b (Verdict.Refused (Answer.Undo number)) (from .verdict); used = r .used; read = from .read + 1 })
     t′
 undone-one strip number c key byte from t t′ r b e eb o f =
     let p : Posting = record { binding = c .binding; key = key; row = c .row } in
     record {
-      held = holds-held _ _ _ (o .holds);
+      ordered = carries-ordered _ _ _ (o .carries);
       few = omega arith;
       rest =
           λ ds.
           rw e
           (undoing-step strip (record { number = number; posting = p }) ds (from .verdict) (from .read) (postings (from .used) t)
-          ∙ rw (← eb, sym (o .failed) ∙ f, holds-postings _ _ _ (o .holds)));
+          ∙ rw (← eb, sym (o .failed) ∙ f, carries-postings _ _ _ (o .carries)));
     }
 
 -- a run of undo removals that has come down to i
@@ -73,7 +73,7 @@ pub record Undoing (number : ℕ → ℕ) (cs : List Change) (strip : List ℕ) 
   pub low : i ≤ n
   pub few : b .read + i ≤ read + n
   pub len : length t ≡ length t₀
-  pub held : Held t (b .used)
+  pub ordered : Ordered t (b .used)
   pub is :
       undoing strip (backward number n cs) Verdict.Passes read (postings used t₀) ≡
       undoing strip (backward number i cs) (b .verdict) (b .read) (postings (b .used) t)
@@ -90,7 +90,7 @@ module _ {number : ℕ → ℕ} {cs : List Change} {strip : List ℕ} {n read us
     (z : Undoing number cs strip n read used t₀ t b i) where
   pub undo-turn :
       {t′ : List ℕ} {b′ : Back} → 0 < i → length t′ ≡ length t →
-      UndoesOne strip (number (i - 1)) (getD cs (number (i - 1)) noChange) b t b′ t′ →
+      OneUndone strip (number (i - 1)) (getD cs (number (i - 1)) noChange) b t b′ t′ →
       Undoing number cs strip n read used t₀ t′ b′ (i - 1)
   undo-turn {t′} {b′} h l o =
       let lo = z .low in
@@ -100,7 +100,7 @@ module _ {number : ℕ → ℕ} {cs : List Change} {strip : List ℕ} {n read us
         low = omega arith;
         few = omega arith;
         len = l ∙ z .len;
-        held = o .held;
+        ordered = o .ordered;
         is =
             z .is
             ∙ (ap (λ ds. undoing strip ds (b .verdict) (b .read) (postings (b .used) t)) (backward-next number cs i h)
@@ -109,19 +109,19 @@ module _ {number : ℕ → ℕ} {cs : List Change} {strip : List ℕ} {n read us
 
   pub undo-end :
       (most : ℕ) → read + n ≤ most → i ≡ 0 →
-      Undoes (undoing strip (backward number n cs) Verdict.Passes read (postings used t₀)) b t most
+      UndoneIn (undoing strip (backward number n cs) Verdict.Passes read (postings used t₀)) b t most
   unfolding backward undoing
   undo-end most m e =
       let fe = z .few in
       let w = z .is ∙ ap (λ m. undoing strip (backward number m cs) (b .verdict) (b .read) (postings (b .used) t)) e in
-      rw w (record { verdict = refl; holds = z .held; read = refl; few = omega arith })
+      rw w (record { verdict = refl; carries = z .ordered; read = refl; few = omega arith })
 
 -- where the run begins
 pub undo-start :
-    (number : ℕ → ℕ) (cs : List Change) (strip : List ℕ) (n read used : ℕ) (t : List ℕ) → Held t used →
+    (number : ℕ → ℕ) (cs : List Change) (strip : List ℕ) (n read used : ℕ) (t : List ℕ) → Ordered t used →
     Undoing number cs strip n read used t t (record { verdict = Verdict.Passes; used = used; read = read }) n
 undo-start number cs strip n read used t h =
-    record { low = omega arith; few = omega arith; len = refl; held = h; is = refl }
+    record { low = omega arith; few = omega arith; len = refl; ordered = h; is = refl }
 
 -- a record from its end to its start
 named-reverse :
@@ -170,25 +170,25 @@ number-below count (n ∷ ns) (suc i) e h =
     number-below count ns i (and-right (ltb n count) (every (λ n. ltb n count) ns) e) (omega arith)
 
 -- a change could not be inserted: the answer that says why where the undo was clean, else 12 with that change
-module _ (why : Answer) (change : ℕ) {u : Undone} {b : Back} {t : List ℕ} {most : ℕ} (o : Undoes u b t most) where
+module _ (why : Answer) (change : ℕ) {u : Undone} {b : Back} {t : List ℕ} {most : ℕ} (o : UndoneIn u b t most) where
   pub undone-clean :
-      b .verdict ≡ Verdict.Passes → Reaches (notInserted why change u)
+      b .verdict ≡ Verdict.Passes → StageIn (notInserted why change u)
       (record { answer = why; used = b .used; read = b .read }) t most
   undone-clean e =
       record {
         answer = ap (λ (v : Verdict). whyNot v why change) (sym e ∙ o .verdict);
-        holds = o .holds;
+        carries = o .carries;
         read = o .read;
         few = o .few;
       }
 
   pub undone-failed :
       (a : Answer) → b .verdict ≡ Verdict.Refused a →
-      Reaches (notInserted why change u) (record { answer = Answer.Undo change; used = b .used; read = b .read }) t most
+      StageIn (notInserted why change u) (record { answer = Answer.Undo change; used = b .used; read = b .read }) t most
   undone-failed a e =
       record {
         answer = ap (λ (v : Verdict). whyNot v why change) (sym e ∙ o .verdict);
-        holds = o .holds;
+        carries = o .carries;
         read = o .read;
         few = o .few;
       }

@@ -8,39 +8,39 @@ use Rattle.rules.specs.Table.{postings}
 use Rattle.rules.specs.Orders.{Numbered, named, destinationOf, noChange}
 use Rattle.rules.specs.Storage.{Insertion, Removal}
 use Rattle.rules.specs.Publication.{Undone, undoing, Stage}
-use Rattle.table.specs.Holding.{Holds, Held}
+use Rattle.table.specs.Holding.{Carries, Ordered}
 use Rattle.steps.specs.declared.Inserted.{Inserted}
 use Rattle.steps.specs.declared.Removed.{Removed}
 use Rattle.steps.specs.declared.Back.{Back}
 use Rattle.steps.specs.declared.Reached.{Reached}
 
 -- an insertion in a table
-pub record Inserts (i : Insertion) (r : Inserted) (table : List ℕ) : Type 0 where
+pub record InsertionIn (i : Insertion) (r : Inserted) (table : List ℕ) : Type 0 where
   pub fault : r .fault ≡ i .fault
-  pub holds : Holds table (r .used) (i .postings)
+  pub carries : Carries table (r .used) (i .postings)
 
 -- a removal in a table
-pub record Removes (o : Removal) (r : Removed) (table : List ℕ) : Type 0 where
+pub record RemovalIn (o : Removal) (r : Removed) (table : List ℕ) : Type 0 where
   pub failed : r .failed ≡ o .failed
-  pub holds : Holds table (r .used) (o .postings)
+  pub carries : Carries table (r .used) (o .postings)
 
 -- a run of undo removals in a table, which has read at most so many bytes
-pub record Undoes (u : Undone) (r : Back) (table : List ℕ) (most : ℕ) : Type 0 where
+pub record UndoneIn (u : Undone) (r : Back) (table : List ℕ) (most : ℕ) : Type 0 where
   pub verdict : r .verdict ≡ u .verdict
-  pub holds : Holds table (r .used) (u .postings)
+  pub carries : Carries table (r .used) (u .postings)
   pub read : r .read ≡ u .read
   pub few : r .read ≤ most
 
 -- a part of a call in a table, which has read at most so many bytes
-pub record Reaches (s : Stage) (r : Reached) (table : List ℕ) (most : ℕ) : Type 0 where
+pub record StageIn (s : Stage) (r : Reached) (table : List ℕ) (most : ℕ) : Type 0 where
   pub answer : r .answer ≡ s .answer
-  pub holds : Holds table (r .used) (s .postings)
+  pub carries : Carries table (r .used) (s .postings)
   pub read : r .read ≡ s .read
   pub few : r .read ≤ most
 
 -- one change is undone: whatever is left to undo goes on from there
-pub record UndoesOne (strip : List ℕ) (number : ℕ) (c : Change) (from : Back) (before : List ℕ) (r : Back) (after : List ℕ) : Type 0 where
-  pub held : Held after (r .used)
+pub record OneUndone (strip : List ℕ) (number : ℕ) (c : Change) (from : Back) (before : List ℕ) (r : Back) (after : List ℕ) : Type 0 where
+  pub ordered : Ordered after (r .used)
   pub few : r .read ≤ from .read + 1
   pub rest :
       (ds : List Numbered) →

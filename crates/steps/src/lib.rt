@@ -1,5 +1,5 @@
 // Prepare, rollback and source removal, step by step, as storage behaves by the strip. An inner layer, not delivered: each asks
-// for a table that holds its postings and for lists that the checks have passed.
+// for a table that carries its postings and for lists that the checks have passed.
 use changes::change_at;
 use changes::count_of;
 use changes::destination_of;
@@ -24,8 +24,8 @@ ghost use Rattle.rules.specs.Orders.{byteAt, changes, destinations, sources, nu
 ghost use Rattle.rules.specs.Storage.{insertion, removal};
 ghost use Rattle.rules.specs.Publication.{undoing, notInserted, preparing, removing};
 ghost use Rattle.rules.specs.Calls.{written};
-ghost use Rattle.table.specs.Holding.{Held};
-ghost use Rattle.steps.specs.Leaving.{Inserts, Removes, Undoes, UndoesOne, Reaches, backward, inOrder};
+ghost use Rattle.table.specs.Holding.{Ordered};
+ghost use Rattle.steps.specs.Leaving.{InsertionIn, RemovalIn, UndoneIn, OneUndone, StageIn, backward, inOrder};
 
 // What an insertion met, and the new used.
 pub struct Inserted {
@@ -65,8 +65,8 @@ fn byte_at(strip: &[u8], read: usize) -> u8
 
 // Byte 0 inserts, or fails full where there is no room; byte 1 or 2 fails unchanged.
 fn insert_by(byte: u8, table: &mut [u32], used: usize, p: Posting) -> Inserted
-    requires { ⌜ Held (now table) used ⌝ }
-    ensures { λ r. ⌜ Inserts (insertion byte (capacity (now (table .entry))) p (postings used (now (table .entry)))) r
+    requires { ⌜ Ordered (now table) used ⌝ }
+    ensures { λ r. ⌜ InsertionIn (insertion byte (capacity (now (table .entry))) p (postings used (now (table .entry)))) r
         (now (table .exit)) ⌝ }
 {
     if byte != 0 {
@@ -90,8 +90,8 @@ fn insert_by(byte: u8, table: &mut [u32], used: usize, p: Posting) -> Inserted
 
 // Byte 0 removes; byte 1 fails unchanged; byte 2 fails with the posting gone.
 fn remove_by(byte: u8, table: &mut [u32], used: usize, p: Posting) -> Removed
-    requires { ⌜ Held (now table) used ⌝ }
-    ensures { λ r. ⌜ Removes (removal byte p (postings used (now (table .entry)))) r (now (table .exit)) ⌝ }
+    requires { ⌜ Ordered (now table) used ⌝ }
+    ensures { λ r. ⌜ RemovalIn (removal byte p (postings used (now (table .entry)))) r (now (table .exit)) ⌝ }
 {
     if byte == 1 {
         return Removed { failed: true, used };
@@ -105,10 +105,10 @@ fn remove_by(byte: u8, table: &mut [u32], used: usize, p: Posting) -> Removed
 
 // The destination of one change is removed again. A failure is kept, with the change, and what comes after goes on.
 fn undo_change(table: &mut [u32], list: &[u32], strip: &[u8], number: usize, so_far: Back) -> Back
-    requires { ⌜ Held (now table) («so_far» .used) ⌝ }
+    requires { ⌜ Ordered (now table) («so_far» .used) ⌝ }
     requires { ⌜ (number < length (changes (now list))) × (length (changes (now list)) ≤ mostChanges) ⌝ }
     requires { ⌜ «so_far» .read + 1 < 2 ^ 64 ⌝ }
-    ensures { λ r. ⌜ UndoesOne (now (strip .entry)) number (getD (changes (now (list .entry))) number noChange) «so_far»
+    ensures { λ r. ⌜ OneUndone (now (strip .entry)) number (getD (changes (now (list .entry))) number noChange) «so_far»
         (now (table .entry)) r (now (table .exit)) ⌝ }
 {
     let change = change_at(list, number);
@@ -141,10 +141,10 @@ fn undo_below(
     used: usize,
     read: usize,
 ) -> Back
-    requires { ⌜ Held (now table) used ⌝ }
+    requires { ⌜ Ordered (now table) used ⌝ }
     requires { ⌜ (change ≤ length (changes (now list))) × (length (changes (now list)) ≤ mostChanges) ⌝ }
     requires { ⌜ read ≤ length (changes (now list)) + 1 ⌝ }
-    ensures { λ r. ⌜ Undoes
+    ensures { λ r. ⌜ UndoneIn
         (undoing (now (strip .entry)) (backward inOrder change (changes (now (list .entry)))) Verdict.Passes read
         (postings used (now (table .entry))))
         r (now (table .exit)) (read + change) ⌝ }
@@ -164,9 +164,9 @@ fn undo_below(
 
 // Rollback: the destinations of a record are removed, from its end to its start.
 pub fn rollback(table: &mut [u32], list: &[u32], strip: &[u8], record: &[u32], used: usize) -> Back
-    requires { ⌜ Held (now table) used × (length (changes (now list)) ≤ mostChanges) ⌝ }
+    requires { ⌜ Ordered (now table) used × (length (changes (now list)) ≤ mostChanges) ⌝ }
     requires { ⌜ every (λ n. ltb n (length (changes (now list)))) (now «record») ≡ true ⌝ }
-    ensures { λ r. ⌜ Undoes
+    ensures { λ r. ⌜ UndoneIn
         (undoing (now (strip .entry)) (reverse (recorded (changes (now (list .entry))) (now («record» .entry))))
         Verdict.Passes 0 (postings used (now (table .entry))))
         r (now (table .exit)) (length (now («record» .entry))) ⌝ }
@@ -194,10 +194,10 @@ fn not_inserted(
     used: usize,
     read: usize,
 ) -> Reached
-    requires { ⌜ Held (now table) used ⌝ }
+    requires { ⌜ Ordered (now table) used ⌝ }
     requires { ⌜ (change ≤ length (changes (now list))) × (length (changes (now list)) ≤ mostChanges) ⌝ }
     requires { ⌜ read ≤ length (changes (now list)) + 1 ⌝ }
-    ensures { λ r. ⌜ Reaches
+    ensures { λ r. ⌜ StageIn
         (notInserted why change
         (undoing (now (strip .entry)) (backward inOrder change (changes (now (list .entry)))) Verdict.Passes read
         (postings used (now (table .entry)))))
@@ -221,8 +221,8 @@ fn not_inserted(
 
 // Prepare: the destinations go in, up the list. At a failed insertion all is undone.
 pub fn prepare(table: &mut [u32], list: &[u32], strip: &[u8], used: usize) -> Reached
-    requires { ⌜ Held (now table) used × (length (changes (now list)) ≤ mostChanges) ⌝ }
-    ensures { λ r. ⌜ Reaches
+    requires { ⌜ Ordered (now table) used × (length (changes (now list)) ≤ mostChanges) ⌝ }
+    ensures { λ r. ⌜ StageIn
         (preparing (capacity (now (table .entry))) (now (strip .entry)) (destinations (changes (now (list .entry)))) [] 0
         (postings used (now (table .entry))))
         r (now (table .exit)) (length (changes (now (list .entry))) * 2 + 1) ⌝ }
@@ -294,9 +294,9 @@ pub fn remove_sources(
     used: usize,
     read: usize,
 ) -> Reached
-    requires { ⌜ Held (now table) used × (length (changes (now list)) ≤ mostChanges) ⌝ }
+    requires { ⌜ Ordered (now table) used × (length (changes (now list)) ≤ mostChanges) ⌝ }
     requires { ⌜ read ≤ length (changes (now list)) * 2 + 1 ⌝ }
-    ensures { λ r. ⌜ Reaches
+    ensures { λ r. ⌜ StageIn
         (removing (now (strip .entry)) clear (sources (changes (now (list .entry)))) read
         (postings used (now (table .entry))))
         r (now (table .exit)) (read + length (changes (now (list .entry)))) ⌝ }

@@ -1,4 +1,4 @@
--- A table that holds its postings holds them after an insertion and after a removal.
+-- A table that carries its postings carries them after an insertion and after a removal.
 use Prim.Native.Nat.{ℕ, suc, _+_, _-_, _*_, _<_, _≤_}
 use native.Mathlib.Omega.{arith}
 use mathlib.Core.Path.{_≡_, sym, ap, _∙_}
@@ -14,22 +14,22 @@ use Rattle.laws.proofs.Lists.{length-inserted}
 use Rattle.laws.proofs.Sorted.{ascending-inserted, ascending-removed}
 use Rattle.laws.proofs.Flat.{well-formed-parts, used-postings, laid-out-same, postings-laid-out, length-laid-out}
 use Rattle.table.specs.declared.Place.{Place}
-use Rattle.table.specs.Holding.{Holds, Held, placeOf, blank}
+use Rattle.table.specs.Holding.{Carries, Ordered, placeOf, blank}
 use Rattle.table.specs.Shifts.{stored, raised, lowered}
 use Rattle.table.proofs.Places.{gap-most, at-inside, gap-absent, inserted-in-gap, inserted-found, removed-found, removed-from-gap}
 use Rattle.table.proofs.Moves.{opened, closed}
 
--- the postings that a table holds are those that it shows
-pub holds-postings : (t : List ℕ) (used : ℕ) (ps : List Posting) → Holds t used ps → postings used t ≡ ps
-holds-postings t used ps h =
+-- the postings that a table carries are those that it shows
+pub carries-postings : (t : List ℕ) (used : ℕ) (ps : List Posting) → Carries t used ps → postings used t ≡ ps
+carries-postings t used ps h =
     rw (h .count) (ap (postings (length ps)) (h .laid) ∙ postings-laid-out (length t) ps)
 
-pub holds-held : (t : List ℕ) (used : ℕ) (ps : List Posting) → Holds t used ps → Held t used
-holds-held t used ps h = rw (holds-postings t used ps h) h
+pub carries-ordered : (t : List ℕ) (used : ℕ) (ps : List Posting) → Carries t used ps → Ordered t used
+carries-ordered t used ps h = rw (carries-postings t used ps h) h
 
--- a well-formed table holds its postings
-pub well-formed-held : (head : Head) (table : List ℕ) → wellFormed head table ≡ true → Held table (head .used)
-well-formed-held head table e =
+-- a well-formed table carries its postings
+pub well-formed-ordered : (head : Head) (table : List ℕ) → wellFormed head table ≡ true → Ordered table (head .used)
+well-formed-ordered head table e =
     let w = well-formed-parts head table e in
     record {
       count = sym (used-postings head table w);
@@ -39,18 +39,18 @@ well-formed-held head table e =
     }
 
 -- postings laid out over the length of a table are held there
-laid-held :
+laid-carries :
     (t x : List ℕ) (ps : List Posting) (used : ℕ) → used ≡ length ps → used * 3 ≤ length t → ascending ps ≡ true →
-    x ≡ laidOut (length t) ps → Holds x used ps
-laid-held t x ps used e room sorted laid =
+    x ≡ laidOut (length t) ps → Carries x used ps
+laid-carries t x ps used e room sorted laid =
     let long : length x ≡ length t = ap length laid ∙ length-laid-out (length t) ps (rw (← e) room) in
     record { count = e; room = rw long room; sorted = sorted; laid = rw long laid }
 
-module _ (t : List ℕ) (used : ℕ) (p : Posting) (at : ℕ) (h : Held t used) where
-  pub inserted-kept : placeOf p (postings used t) ≡ Place.At at → Holds t used (inserted p (postings used t))
+module _ (t : List ℕ) (used : ℕ) (p : Posting) (at : ℕ) (h : Ordered t used) where
+  pub inserted-kept : placeOf p (postings used t) ≡ Place.At at → Carries t used (inserted p (postings used t))
   inserted-kept e = rw (inserted-found p (postings used t) at (h .sorted) e) h
 
-  pub removed-kept : placeOf p (postings used t) ≡ Place.Gap at → Holds t used (removed p (postings used t))
+  pub removed-kept : placeOf p (postings used t) ≡ Place.Gap at → Carries t used (removed p (postings used t))
   removed-kept e = rw (removed-from-gap p (postings used t) at (h .sorted) e) h
 
   pub gap-low : placeOf p (postings used t) ≡ Place.Gap at → at ≤ used
@@ -59,15 +59,15 @@ module _ (t : List ℕ) (used : ℕ) (p : Posting) (at : ℕ) (h : Held t used) 
   pub at-low : placeOf p (postings used t) ≡ Place.At at → at < used
   at-low e = rw (h .count) (at-inside p (postings used t) at (h .sorted) e)
 
-  pub inserted-held :
+  pub inserted-carries :
       (x y : List ℕ) → placeOf p (postings used t) ≡ Place.Gap at → used * 3 + 3 ≤ length t →
-      x ≡ raised (at * 3) (used * 3) t → y ≡ stored (at * 3) p x → Holds y (used + 1) (inserted p (postings used t))
-  inserted-held x y e room ex ey =
+      x ≡ raised (at * 3) (used * 3) t → y ≡ stored (at * 3) p x → Carries y (used + 1) (inserted p (postings used t))
+  inserted-carries x y e room ex ey =
       let ps : List Posting = postings used t in
       let n : used ≡ length ps = h .count in
       let low : at ≤ length ps = gap-most p ps at e in
       let new : inserted p ps ≡ take at ps ++ p ∷ drop at ps = inserted-in-gap p ps at (h .sorted) e in
-      laid-held t y (inserted p ps) (used + 1) (let f = length-inserted p ps (gap-absent p ps at e) in omega arith)
+      laid-carries t y (inserted p ps) (used + 1) (let f = length-inserted p ps (gap-absent p ps at e) in omega arith)
       (omega arith)
       (ascending-inserted p ps (h .sorted))
       (ey
@@ -76,10 +76,10 @@ module _ (t : List ℕ) (used : ℕ) (p : Posting) (at : ℕ) (h : Held t used) 
       ∙ (ap (λ (m : ℕ). stored (at * 3) p (raised (at * 3) (m * 3) (laidOut (length t) ps))) n
       ∙ (opened ps (length t) at p low (omega arith) ∙ ap (laidOut (length t)) (sym new))))))
 
-  pub removed-held :
+  pub removed-carries :
       (x y : List ℕ) → placeOf p (postings used t) ≡ Place.At at →
-      x ≡ lowered (at * 3) (used * 3) t → y ≡ stored ((used - 1) * 3) blank x → Holds y (used - 1) (removed p (postings used t))
-  removed-held x y e ex ey =
+      x ≡ lowered (at * 3) (used * 3) t → y ≡ stored ((used - 1) * 3) blank x → Carries y (used - 1) (removed p (postings used t))
+  removed-carries x y e ex ey =
       let ps : List Posting = postings used t in
       let n : used ≡ length ps = h .count in
       let inside : at < length ps = at-inside p ps at (h .sorted) e in
@@ -91,7 +91,7 @@ module _ (t : List ℕ) (used : ℕ) (p : Posting) (at : ℕ) (h : Held t used) 
       let d = length-take-le at ps (omega arith) in
       let f = length-drop (suc at) ps in
       omega arith) in
-      laid-held t y (removed p ps) (used - 1) (omega arith) (omega arith) (ascending-removed p ps (h .sorted))
+      laid-carries t y (removed p ps) (used - 1) (omega arith) (omega arith) (ascending-removed p ps (h .sorted))
       (ey
       ∙ (ap (stored ((used - 1) * 3) blank) ex
       ∙ (ap (λ (l : List ℕ). stored ((used - 1) * 3) blank (lowered (at * 3) (used * 3) l)) (h .laid)

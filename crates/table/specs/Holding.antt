@@ -10,15 +10,15 @@ use Rattle.rules.specs.Table.{postings, laidOut}
 use Rattle.table.specs.declared.Place.{Place}
 
 -- the table has these postings, ascending, then zeros, and used is how many they are
-pub record Holds (table : List ℕ) (used : ℕ) (ps : List Posting) : Type 0 where
+pub record Carries (table : List ℕ) (used : ℕ) (ps : List Posting) : Type 0 where
   pub count : used ≡ length ps
   pub room : used * 3 ≤ length table
   pub sorted : ascending ps ≡ true
   pub laid : table ≡ laidOut (length table) ps
 
--- it holds the postings that it shows
-abbrev pub Held : List ℕ → ℕ → Type 0
-Held table used = Holds table used (postings used table)
+-- it carries the postings that it shows
+abbrev pub Ordered : List ℕ → ℕ → Type 0
+Ordered table used = Carries table used (postings used table)
 
 -- a posting that is no posting: what stands past a table's end
 abbrev pub blank : Posting

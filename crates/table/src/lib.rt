@@ -1,5 +1,5 @@
 // The posting table over a lent list of numbers, three to a posting: well formed, find, insertion, removal, count.
-// An inner layer, not delivered: `find`, `stands`, `insert` and `remove` ask for a table that holds its postings (Held), which
+// An inner layer, not delivered: `find`, `stands`, `insert` and `remove` ask for a table that carries its postings (Ordered), which
 // `well_formed` has tested once for a whole call.
 use rules::Head;
 use rules::Order;
@@ -11,7 +11,7 @@ ghost use lib.ListN.{length, drop, getD};
 ghost use lib.Dec.{eqb};
 ghost use Rattle.rules.specs.Postings.{every, ranked, compared, isBefore, same, ascending, present, inserted, removed, counted, within};
 ghost use Rattle.rules.specs.Table.{cells, capacity, postings, wellFormed};
-ghost use Rattle.table.specs.Holding.{Holds, Held, blank, placeOf};
+ghost use Rattle.table.specs.Holding.{Carries, Ordered, blank, placeOf};
 ghost use Rattle.table.specs.Shifts.{raised, lowered, stored};
 
 // The limits that the code tests: the rules' own numbers.
@@ -175,7 +175,7 @@ pub fn well_formed(head: Head, table: &[u32]) -> bool
 
 // Where a posting stands, or would: a walk from the front.
 pub fn find(table: &[u32], used: usize, p: Posting) -> Place
-    requires { ⌜ Held (now table) used ⌝ }
+    requires { ⌜ Ordered (now table) used ⌝ }
     ensures { λ r. ⌜ r ≡ placeOf p (postings used (now (table .entry))) ⌝ }
 {
     let mut i = 0;
@@ -191,7 +191,7 @@ pub fn find(table: &[u32], used: usize, p: Posting) -> Place
 
 // The posting stands in the table.
 pub fn stands(table: &[u32], used: usize, p: Posting) -> bool
-    requires { ⌜ Held (now table) used ⌝ }
+    requires { ⌜ Ordered (now table) used ⌝ }
     ensures { λ r. ⌜ r ≡ present p (postings used (now (table .entry))) ⌝ }
 {
     match find(table, used, p) {
@@ -227,8 +227,8 @@ fn lower(table: &mut [u32], from: usize, to: usize)
 
 // The posting at its place, those after it one further, and the new used. A table that has it stays.
 pub fn insert(table: &mut [u32], used: usize, p: Posting) -> usize
-    requires { ⌜ Held (now table) used × (used < capacity (now table)) ⌝ }
-    ensures { λ r. ⌜ Holds (now (table .exit)) r (inserted p (postings used (now (table .entry)))) ⌝ }
+    requires { ⌜ Ordered (now table) used × (used < capacity (now table)) ⌝ }
+    ensures { λ r. ⌜ Carries (now (table .exit)) r (inserted p (postings used (now (table .entry)))) ⌝ }
 {
     match find(table, used, p) {
         Place::At(_) => used,
@@ -242,8 +242,8 @@ pub fn insert(table: &mut [u32], used: usize, p: Posting) -> usize
 
 // The posting gone, those after it one back, zeros in the place set free, and the new used. A table that lacks it stays.
 pub fn remove(table: &mut [u32], used: usize, p: Posting) -> usize
-    requires { ⌜ Held (now table) used ⌝ }
-    ensures { λ r. ⌜ Holds (now (table .exit)) r (removed p (postings used (now (table .entry)))) ⌝ }
+    requires { ⌜ Ordered (now table) used ⌝ }
+    ensures { λ r. ⌜ Carries (now (table .exit)) r (removed p (postings used (now (table .entry)))) ⌝ }
 {
     match find(table, used, p) {
         Place::Gap(_) => used,

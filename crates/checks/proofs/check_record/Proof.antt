@@ -8,7 +8,7 @@ use borrow.Author.Needs.{needs}
 use Rattle.rules.specs.Checks.{recordFrom}
 use Rattle.rules.specs.Orders.{changes}
 use Rattle.checks.proofs.Few.{Few}
-use Rattle.checks.proofs.Numbers.{behind, recordLeft, few-none, few-places, record-all, record-passes, record-means-nothing, record-repeats, record-more, record-none}
+use Rattle.checks.proofs.Numbers.{behind, recordLeft, few-none, few-places, record-all, place-passes, record-means-nothing, record-repeats, record-more, record-none}
 use Rattle.checks.proofs.check_record.Statement.{statement}
 use Rattle.checks.proofs.check_record.Tie as tie
 
@@ -63,7 +63,7 @@ loop-again c =
       omega arith,
       record-more (changes (start .args .list .now)) (start .args .«record» .now) (at .loop .place) (omega arith) means new
           (at .loop .inv .1),
-      at .loop .inv .2 ∙ record-passes (changes (start .args .list .now)) (start .args .«record» .now) (at .loop .place)
+      at .loop .inv .2 ∙ place-passes (changes (start .args .list .now)) (start .args .«record» .now) (at .loop .place)
           (omega arith) means new,
     )
 

@@ -2,7 +2,7 @@
 use mathlib.Core.Path.{sym, _∙_}
 use borrow.Author.Needs.{needs}
 use Rattle.rules.specs.Checks.{guardCheck, twiceCheck, presentCheck}
-use Rattle.table.proofs.Keeping.{well-formed-held}
+use Rattle.table.proofs.Keeping.{well-formed-ordered}
 use Rattle.refusals.proofs.Firsts.{ends, goes-on, destinations-parts}
 use Rattle.refusals.proofs.of_destinations.Statement.{statement}
 use Rattle.refusals.proofs.of_destinations.Tie as tie
@@ -50,7 +50,7 @@ cast-check-present c = search needs
 
 check-present-requires : tie.Need-check-present-requires
 check-present-requires c κs = (
-  well-formed-held _ _ (c .before .before .before .before .before .before .before .before .before .before .pre .0),
+  well-formed-ordered _ _ (c .before .before .before .before .before .before .before .before .before .before .pre .0),
   c
       .before .before .before .before .before .before .before .before .before .before .pre .1,
 )

@@ -4,7 +4,7 @@ use native.Mathlib.Omega.{arith}
 use mathlib.Core.Path.{refl, sym, _∙_}
 use borrow.Author.Needs.{needs}
 use Rattle.rules.specs.Orders.{changes}
-use Rattle.table.proofs.Keeping.{holds-held}
+use Rattle.table.proofs.Keeping.{carries-ordered}
 use Rattle.steps.proofs.Insertions.{Preparing, prepare-start, prepare-pass, prepare-clear, prepare-stop, prepare-end}
 use Rattle.steps.proofs.prepare.Statement.{statement}
 use Rattle.steps.proofs.prepare.Tie as tie
@@ -53,7 +53,7 @@ byte-at-requires : tie.Need-byte-at-requires Inv-loop μ-loop
 byte-at-requires c κs = search needs
 
 insert-by-requires : tie.Need-insert-by-requires Inv-loop μ-loop
-insert-by-requires c κs = c .before .before .before .before .before .before .before .before .before .loop .inv .held
+insert-by-requires c κs = c .before .before .before .before .before .before .before .before .before .loop .inv .ordered
 
 add-read : tie.Need-add-read Inv-loop μ-loop
 add-read c =
@@ -114,7 +114,7 @@ not-inserted-requires c κs =
     .before .before .loop .inv .few in
     let l = c .before .before .before .before .before .before .before .before .before .before .before .before .before
     .before .before .loop .inv .low in (
-      holds-held _ _ _ (c .before .before .before .before .before .insert-by .ensures .holds),
+      carries-ordered _ _ _ (c .before .before .before .before .before .insert-by .ensures .carries),
       ((l, c .before .before .before .before .before .before .before .before .before .before .before .before .before .before .before .before .before .before .before .before .pre .1), omega arith),
     )
 
@@ -163,7 +163,7 @@ not-inserted-requires-2 c κs =
     .before .before .loop .inv .few in
     let l = c .before .before .before .before .before .before .before .before .before .before .before .before .before
     .before .before .loop .inv .low in (
-      holds-held _ _ _ (c .before .before .before .before .before .insert-by .ensures .holds),
+      carries-ordered _ _ _ (c .before .before .before .before .before .insert-by .ensures .carries),
       ((l, c .before .before .before .before .before .before .before .before .before .before .before .before .before .before .before .before .before .before .before .before .pre .1), omega arith),
     )
 

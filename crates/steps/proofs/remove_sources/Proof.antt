@@ -52,7 +52,7 @@ byte-at-requires : tie.Need-byte-at-requires Inv-loop μ-loop
 byte-at-requires c κs = search needs
 
 remove-by-requires : tie.Need-remove-by-requires Inv-loop μ-loop
-remove-by-requires c κs = c .before .before .before .before .before .before .before .before .before .loop .inv .held
+remove-by-requires c κs = c .before .before .before .before .before .before .before .before .before .loop .inv .ordered
 
 add-read : tie.Need-add-read Inv-loop μ-loop
 add-read c =

@@ -40,7 +40,7 @@ undo-change-requires c κs =
     let b =
     number-below _ _ (c .before .before .before .loop .place - 1)
     (c .before .before .before .before .before .before .before .before .pre .1) (omega arith) in (
-      c .before .before .before .loop .inv .held,
+      c .before .before .before .loop .inv .ordered,
       ((b, c .before .before .before .before .before .before .before .before .pre .0 .1), omega arith),
     )
 

@@ -24,7 +24,7 @@ undo-change-requires : tie.Need-undo-change-requires Inv-loop μ-loop
 undo-change-requires c κs =
     let l = c .before .before .loop .inv .low in
     let f = c .before .before .loop .inv .few in (
-      c .before .before .loop .inv .held,
+      c .before .before .loop .inv .ordered,
       ((omega arith, c .before .before .before .before .before .before .pre .1 .0 .1), omega arith),
     )
 

@@ -2,7 +2,7 @@
 use native.Mathlib.Omega.{arith}
 use mathlib.Core.Path.{sym, _∙_}
 use borrow.Author.Needs.{needs}
-use Rattle.table.proofs.Keeping.{gap-low, inserted-kept, inserted-held}
+use Rattle.table.proofs.Keeping.{gap-low, inserted-kept, inserted-carries}
 use Rattle.table.proofs.insert.Statement.{statement}
 use Rattle.table.proofs.insert.Tie as tie
 
@@ -59,7 +59,7 @@ same-length-2 c = search needs
 
 returns-2 : tie.Need-returns-2
 returns-2 c =
-    inserted-held _ _ _ _
+    inserted-carries _ _ _ _
     (c .before .before .before .before .before .before .before .before .before .before .before .before .before .before .pre
     .0)
     _ _

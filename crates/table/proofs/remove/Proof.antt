@@ -2,7 +2,7 @@
 use native.Mathlib.Omega.{arith}
 use mathlib.Core.Path.{sym, _∙_}
 use borrow.Author.Needs.{needs}
-use Rattle.table.proofs.Keeping.{at-low, removed-kept, removed-held}
+use Rattle.table.proofs.Keeping.{at-low, removed-kept, removed-carries}
 use Rattle.table.proofs.remove.Statement.{statement}
 use Rattle.table.proofs.remove.Tie as tie
 
@@ -72,7 +72,7 @@ same-length-2 c = search needs
 
 returns-2 : tie.Need-returns-2
 returns-2 c =
-    removed-held _ _ _ _
+    removed-carries _ _ _ _
     (c .before .before .before .before .before .before .before .before .before .before .before .before .before .before .pre)
     _ _
     (sym (c .before .before .before .before .before .before .before .before .before .before .before .find .ensures) ∙ c

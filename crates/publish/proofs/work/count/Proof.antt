@@ -3,7 +3,7 @@ use native.Mathlib.Omega.{arith}
 use borrow.Author.Needs.{needs}
 use Rattle.rules.specs.Table.{postings}
 use Rattle.laws.proofs.Flat.{well-formed-parts}
-use Rattle.table.proofs.Keeping.{well-formed-held}
+use Rattle.table.proofs.Keeping.{well-formed-ordered}
 use Rattle.publish.proofs.Showing.{counted-most}
 use Rattle.publish.proofs.work.count.Statement.{statement}
 use Rattle.publish.proofs.work.count.Tie as tie
@@ -12,11 +12,11 @@ cast-count-of : tie.Need-cast-count-of
 cast-count-of c = search needs
 
 count-of-requires : tie.Need-count-of-requires
-count-of-requires c κs = well-formed-held _ _ (c .before .before .pre) .room
+count-of-requires c κs = well-formed-ordered _ _ (c .before .before .pre) .room
 
 cast-t7 : tie.Need-cast-t7
 cast-t7 c =
-    let h = well-formed-held _ _ (c .before .before .before .pre) in
+    let h = well-formed-ordered _ _ (c .before .before .before .pre) in
     let s = well-formed-parts _ _ (c .before .before .before .pre) .size in
     let e = c .count-of .ensures in
     let m =

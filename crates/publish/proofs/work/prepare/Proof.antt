@@ -2,7 +2,7 @@
 use mathlib.Core.Path.{sym, ap, _∙_}
 use borrow.Author.Needs.{needs}
 use Rattle.rules.specs.Orders.{changes, destinations}
-use Rattle.table.proofs.Keeping.{well-formed-held}
+use Rattle.table.proofs.Keeping.{well-formed-ordered}
 use Rattle.publish.specs.Promises.{outcomeOf}
 use Rattle.publish.specs.declared.Done.{Done}
 use Rattle.publish.proofs.Showing.{used-fits, prepared-in, prepared-not}
@@ -14,7 +14,7 @@ cast-prepare c = search needs
 
 prepare-requires : tie.Need-prepare-requires
 prepare-requires c κs = (
-  well-formed-held _ _ (c .before .before .before .before .before .before .pre .0),
+  well-formed-ordered _ _ (c .before .before .before .before .before .before .pre .0),
   c .before .before .before .before
       .before .before .pre .1 .0,
 )
@@ -32,7 +32,7 @@ done-requires c κs =
     (c .before .before .before .before .before .before .before .before .before .before .before .before .before .before
     .before .pre .0)
     (c .before .before .before .before .before .before .before .before .prepare .kept .0)
-    (c .before .before .before .before .before .before .before .before .prepare .ensures .holds)
+    (c .before .before .before .before .before .before .before .before .prepare .ensures .carries)
 
 same-length : tie.Need-same-length
 same-length c = search needs
@@ -67,7 +67,7 @@ returns c =
 done-requires-2 : tie.Need-done-requires-2
 done-requires-2 c κs =
     used-fits _ _ _ _ _ (c .before .before .before .before .before .before .before .before .before .before .before .pre .0)
-    (c .before .before .before .before .prepare .kept .0) (c .before .before .before .before .prepare .ensures .holds)
+    (c .before .before .before .before .prepare .kept .0) (c .before .before .before .before .prepare .ensures .carries)
 
 same-length-3 : tie.Need-same-length-3
 same-length-3 c = search needs

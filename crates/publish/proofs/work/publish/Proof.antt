@@ -2,7 +2,7 @@
 use mathlib.Core.Path.{sym, ap, _∙_}
 use borrow.Author.Needs.{needs}
 use Rattle.rules.specs.Orders.{changes, destinations, sources}
-use Rattle.table.proofs.Keeping.{well-formed-held, holds-held}
+use Rattle.table.proofs.Keeping.{well-formed-ordered, carries-ordered}
 use Rattle.publish.specs.Promises.{outcomeOf}
 use Rattle.publish.specs.declared.Done.{Done}
 use Rattle.publish.proofs.Showing.{used-fits, published-in, published-not}
@@ -14,7 +14,7 @@ cast-prepare c = search needs
 
 prepare-requires : tie.Need-prepare-requires
 prepare-requires c κs = (
-  well-formed-held _ _ (c .before .before .before .before .before .before .pre .0),
+  well-formed-ordered _ _ (c .before .before .before .before .before .before .pre .0),
   c .before .before .before .before
       .before .before .pre .1 .0,
 )
@@ -28,7 +28,7 @@ write-record-requires c κs =
 
 remove-sources-requires : tie.Need-remove-sources-requires
 remove-sources-requires c κs = (
-  (holds-held _ _ _ (c .before .before .before .before .before .before .before .before .before .prepare .ensures .holds), c .before .before .before .before .before .before .before .before .before .before .before .before .before .before .before .before .pre .1 .0),
+  (carries-ordered _ _ _ (c .before .before .before .before .before .before .before .before .before .prepare .ensures .carries), c .before .before .before .before .before .before .before .before .before .before .before .before .before .before .before .before .pre .1 .0),
   c .before .before .before .before .before .before .before .before .before .prepare .ensures .few,
 )
 
@@ -39,7 +39,7 @@ done-requires c κs =
     .before .before .before .before .before .pre .0)
     (c .before .before .remove-sources .kept .0 ∙ c .before .before .before .before .before .before .before .before .before
     .before .before .before .prepare .kept .0)
-    (c .before .before .remove-sources .ensures .holds)
+    (c .before .before .remove-sources .ensures .carries)
 
 same-length : tie.Need-same-length
 same-length c = search needs
@@ -85,7 +85,7 @@ returns c =
 done-requires-2 : tie.Need-done-requires-2
 done-requires-2 c κs =
     used-fits _ _ _ _ _ (c .before .before .before .before .before .before .before .before .before .before .before .pre .0)
-    (c .before .before .before .before .prepare .kept .0) (c .before .before .before .before .prepare .ensures .holds)
+    (c .before .before .before .before .prepare .kept .0) (c .before .before .before .before .prepare .ensures .carries)
 
 same-length-3 : tie.Need-same-length-3
 same-length-3 c = search needs

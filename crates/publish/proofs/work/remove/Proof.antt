@@ -2,7 +2,7 @@
 use mathlib.Core.List.{[]}
 use mathlib.Core.Path.{ap, _∙_}
 use borrow.Author.Needs.{needs}
-use Rattle.table.proofs.Keeping.{well-formed-held}
+use Rattle.table.proofs.Keeping.{well-formed-ordered}
 use Rattle.publish.specs.Promises.{outcomeOf}
 use Rattle.publish.specs.declared.Done.{Done}
 use Rattle.publish.proofs.Showing.{used-fits, reached-shown}
@@ -14,14 +14,14 @@ cast-remove-sources c = search needs
 
 remove-sources-requires : tie.Need-remove-sources-requires
 remove-sources-requires c κs = (
-  (well-formed-held _ _ (c .before .before .before .before .before .pre .0), c .before .before .before .before .before .pre .1),
+  (well-formed-ordered _ _ (c .before .before .before .before .before .pre .0), c .before .before .before .before .before .pre .1),
   search needs,
 )
 
 done-requires : tie.Need-done-requires
 done-requires c κs =
     used-fits _ _ _ _ _ (c .before .before .before .before .before .before .before .before .pre .0)
-    (c .before .before .remove-sources .kept .0) (c .before .before .remove-sources .ensures .holds)
+    (c .before .before .remove-sources .kept .0) (c .before .before .remove-sources .ensures .carries)
 
 same-length : tie.Need-same-length
 same-length c = search needs

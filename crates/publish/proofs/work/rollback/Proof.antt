@@ -3,7 +3,7 @@ use mathlib.Core.Path.{ap, _∙_}
 use borrow.Author.Needs.{needs}
 use Rattle.rules.specs.Calls.{Outcome}
 use Rattle.rules.specs.declared.Answer.{Answer}
-use Rattle.table.proofs.Keeping.{well-formed-held}
+use Rattle.table.proofs.Keeping.{well-formed-ordered}
 use Rattle.publish.specs.Promises.{outcomeOf}
 use Rattle.publish.specs.declared.Done.{Done}
 use Rattle.publish.proofs.Showing.{doneOf, used-fits, undone-shown}
@@ -15,7 +15,7 @@ cast-rollback c = search needs
 
 rollback-requires : tie.Need-rollback-requires
 rollback-requires c κs = (
-  (well-formed-held _ _ (c .before .before .before .before .before .before .pre .0), c .before .before .before .before .before .before .pre .1 .0),
+  (well-formed-ordered _ _ (c .before .before .before .before .before .before .pre .0), c .before .before .before .before .before .before .pre .1 .0),
   c .before .before .before .before .before .before .pre .1 .1,
 )
 
@@ -25,7 +25,7 @@ settle-requires c κs = search needs
 done-requires : tie.Need-done-requires
 done-requires c κs =
     used-fits _ _ _ _ _ (c .before .before .before .before .before .before .before .before .before .before .pre .0)
-    (c .before .before .before .rollback .kept .0) (c .before .before .before .rollback .ensures .holds)
+    (c .before .before .before .rollback .kept .0) (c .before .before .before .rollback .ensures .carries)
 
 same-length : tie.Need-same-length
 same-length c = search needs
