@@ -16,7 +16,7 @@ use Rattle.rules.specs.Checks.{must, orElse, firstFailing}
 use Rattle.laws.proofs.Ranks.{same-turned}
 use Rattle.laws.proofs.Left.{item-left}
 use Rattle.changes.proofs.Walk.{destinations-left, sources-left, destinations-none, sources-none}
-use Rattle.checks.specs.Walks.{underKey, goesTo}
+use Rattle.checks.specs.Keys.{underKey, goesTo}
 
 module _ {A : Type 0} (none : A) (test : A → Bool) (answer : ℕ → A → Answer) (xs : List A) (i : ℕ) where
   -- x was read at place i

@@ -14,7 +14,7 @@ use Rattle.rules.specs.Postings.{same}
 use Rattle.rules.specs.Orders.{destinationOf, Numbered, named, destinationsFrom, destinations, noChange}
 use Rattle.rules.specs.Checks.{must, orElse, firstFailing, equalTo, twiceFrom}
 use Rattle.changes.proofs.Walk.{destinations-left, destinations-none, destinations-behind}
-use Rattle.checks.specs.Walks.{underKey, oneDestination}
+use Rattle.checks.specs.Keys.{underKey, oneDestination}
 use Rattle.checks.proofs.Failing.{firstOf, first-destination, no-destination}
 
 -- the change at a place

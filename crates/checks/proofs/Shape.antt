@@ -11,7 +11,7 @@ use borrow.Author.Tests.{le-leb, lt-leb, eq-eqb, ne-eqb}
 use Rattle.rules.specs.Limits.{mostChanges, mostGuards, mostBytes}
 use Rattle.rules.specs.Postings.{every}
 use Rattle.rules.specs.Orders.{properKey, changes, properChanges, properLists, properStrip}
-use Rattle.checks.specs.Walks.{properAt}
+use Rattle.checks.specs.Keys.{properAt}
 use Rattle.checks.proofs.Guards.{guards-length}
 
 proper-front :

@@ -1,2 +1,2 @@
 -- What the contracts of `checks` speak of.
-pub mod Walks
+pub mod Keys

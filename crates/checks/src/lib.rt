@@ -23,7 +23,7 @@ ghost use Rattle.rules.specs.Table.{postings};
 ghost use Rattle.rules.specs.Orders.{properKey, properChanges, properLists, properStrip, guards, changes, held, destinationOf, destinations, sources, noChange, Numbered, postingsOf};
 ghost use Rattle.rules.specs.Checks.{firstFailing, heldKey, guarded, isNamed, recordable, among, recordFrom, twiceFrom};
 ghost use Rattle.table.specs.Holding.{Ordered};
-ghost use Rattle.checks.specs.Walks.{properAt, goesTo, oneDestination, destinationIn, sourceIn};
+ghost use Rattle.checks.specs.Keys.{properAt, goesTo, oneDestination, destinationIn, sourceIn};
 
 // The limits that the code tests: the rules' own numbers.
 pub const MOST_CHANGES: usize = 256;

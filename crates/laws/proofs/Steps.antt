@@ -113,11 +113,6 @@ module _ (strip : List ℕ) (d : Numbered) (ds : List Numbered) (read : ℕ) (ps
   preparing-store capacity done h = rw (insertion-store (byteAt strip read) capacity (d .posting) ps h)
 
 -- a removal takes away nothing but its own posting, whatever the byte
-removed-not : (a b : Bool) → (a && not b) ≡ true → b ≡ false
-removed-not true false h = refl
-removed-not true true h = absurd (clash false h refl)
-removed-not false b h = absurd (clash false h refl)
-
 pub removed-only-then :
     (byte : ℕ) (q : Posting) (ps l qs : List Posting) → RemovedOnly (removal byte q ps .postings) l qs →
     RemovedOnly ps l (q ∷ qs)

@@ -139,5 +139,5 @@ pub fn count(head: Head, table: &[u32], binding: u32, key: u32) -> Answer
     requires { ⌜ wellFormed head (now table) ≡ true ⌝ }
     ensures { λ r. ⌜ r ≡ Answer.Accepted (counted binding key (postings (head .used) (now (table .entry)))) ⌝ }
 {
-    Answer::Accepted(table::count_of(table, head.used as usize, binding, key) as u32)
+    Answer::Accepted(table::count_postings(table, head.used as usize, binding, key) as u32)
 }

@@ -3,4 +3,4 @@ pub mod Bytes
 pub mod Undos
 pub mod Removals
 pub mod Insertions
-pub mod Records
+pub mod Writing

@@ -50,9 +50,10 @@ pub record OneUndone (strip : List ℕ) (number : ℕ) (c : Change) (from : Back
 -- the destinations of so many changes, the last one first: the order of their undo. The numbers of the changes are those that a
 -- record has, or the first ones
 unfoldable pub backward : (ℕ → ℕ) → ℕ → List Change → List Numbered
-backward number zero cs = []
-backward number (suc i) cs =
-    named (number i) (getD cs (number i) noChange) (destinationOf (getD cs (number i) noChange)) (backward number i cs)
+backward numbering zero cs = []
+backward numbering (suc i) cs =
+    named (numbering i) (getD cs (numbering i) noChange) (destinationOf (getD cs (numbering i) noChange))
+    (backward numbering i cs)
 
 -- the first changes
 abbrev pub inOrder : ℕ → ℕ

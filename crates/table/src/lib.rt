@@ -276,7 +276,7 @@ fn hit(p: Posting, binding: u32, key: u32) -> usize
 }
 
 // How many postings have this binding and key.
-pub fn count_of(table: &[u32], used: usize, binding: u32, key: u32) -> usize
+pub fn count_postings(table: &[u32], used: usize, binding: u32, key: u32) -> usize
     requires { ⌜ used * 3 ≤ length (now table) ⌝ }
     ensures { λ r. ⌜ r ≡ counted binding key (postings used (now (table .entry))) ⌝ }
 {

@@ -4,7 +4,7 @@ use native.Mathlib.Omega.{arith}
 use mathlib.Core.Path.{sym, _∙_}
 use borrow.Author.Needs.{needs}
 use Rattle.rules.specs.Orders.{changes}
-use Rattle.steps.proofs.Records.{Recording, record-start, record-pass, record-turn, record-end}
+use Rattle.steps.proofs.Writing.{Recording, record-start, record-pass, record-turn, record-end}
 use Rattle.steps.proofs.write_record.Statement.{statement}
 use Rattle.steps.proofs.write_record.Tie as tie
 

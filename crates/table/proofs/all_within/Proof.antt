@@ -1,7 +1,7 @@
 -- The last posting decides, since the postings ascend.
 use mathlib.Core.Path.{sym}
 use borrow.Author.Needs.{needs}
-use Rattle.table.proofs.Walks.{bindings-within, none-within}
+use Rattle.table.proofs.Reading.{bindings-within, none-within}
 use Rattle.table.proofs.all_within.Statement.{statement}
 use Rattle.table.proofs.all_within.Tie as tie
 

@@ -7,7 +7,7 @@ use lib.ListN.{drop}
 use borrow.Author.Needs.{needs}
 use Rattle.rules.specs.Postings.{chain, ascending}
 use Rattle.rules.specs.Table.{postings}
-use Rattle.table.proofs.Walks.{none-left, chain-left, ascending-left, none-ascend, none-chained}
+use Rattle.table.proofs.Reading.{none-left, chain-left, ascending-left, none-ascend, none-chained}
 use Rattle.table.proofs.ascends.Statement.{statement}
 use Rattle.table.proofs.ascends.Tie as tie
 

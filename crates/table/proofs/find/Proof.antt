@@ -5,7 +5,7 @@ use mathlib.Core.Path.{_≡_, sym, _∙_}
 use borrow.Author.Needs.{needs}
 use Rattle.rules.specs.Table.{postings}
 use Rattle.table.proofs.Places.{Passed, passed-none, passed-more, passed-same, passed-after, passed-all}
-use Rattle.table.proofs.Walks.{none-left, next-left}
+use Rattle.table.proofs.Reading.{none-left, next-left}
 use Rattle.table.proofs.find.Statement.{statement}
 use Rattle.table.proofs.find.Tie as tie
 

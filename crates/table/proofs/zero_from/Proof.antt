@@ -6,7 +6,7 @@ use lib.Dec.{eqb}
 use lib.ListN.{length, drop}
 use borrow.Author.Needs.{needs}
 use Rattle.rules.specs.Postings.{every}
-use Rattle.table.proofs.Walks.{zeros-turn, zeros-end}
+use Rattle.table.proofs.Reading.{zeros-turn, zeros-end}
 use Rattle.table.proofs.zero_from.Statement.{statement}
 use Rattle.table.proofs.zero_from.Tie as tie
 

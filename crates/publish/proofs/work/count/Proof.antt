@@ -8,17 +8,17 @@ use Rattle.publish.proofs.Showing.{counted-most}
 use Rattle.publish.proofs.work.count.Statement.{statement}
 use Rattle.publish.proofs.work.count.Tie as tie
 
-cast-count-of : tie.Need-cast-count-of
-cast-count-of c = search needs
+cast-count-postings : tie.Need-cast-count-postings
+cast-count-postings c = search needs
 
-count-of-requires : tie.Need-count-of-requires
-count-of-requires c κs = well-formed-ordered _ _ (c .before .before .pre) .room
+count-postings-requires : tie.Need-count-postings-requires
+count-postings-requires c κs = well-formed-ordered _ _ (c .before .before .pre) .room
 
 cast-t7 : tie.Need-cast-t7
 cast-t7 c =
     let h = well-formed-ordered _ _ (c .before .before .before .pre) in
     let s = well-formed-parts _ _ (c .before .before .before .pre) .size in
-    let e = c .count-of .ensures in
+    let e = c .count-postings .ensures in
     let m =
     counted-most (c .before .before .before .args .binding) (c .before .before .before .args .key)
     (postings (c .before .before .before .args .head .used) (c .before .before .before .args .table .now)) in
@@ -30,4 +30,4 @@ returns : tie.Need-returns
 returns c = search needs
 
 pub count-spec : {M : Type 1} → statement M
-count-spec = tie.close (tie.spec cast-count-of count-of-requires cast-t7 returns)
+count-spec = tie.close (tie.spec cast-count-postings count-postings-requires cast-t7 returns)

@@ -8,9 +8,9 @@ use borrow.Author.Needs.{needs}
 use Rattle.rules.specs.Postings.{bucket, counted}
 use Rattle.rules.specs.Table.{postings}
 use Rattle.rules.specs.declared.Posting.{Posting}
-use Rattle.table.proofs.Walks.{none-left, bucket-left, none-counted, one-most}
-use Rattle.table.proofs.count_of.Statement.{statement}
-use Rattle.table.proofs.count_of.Tie as tie
+use Rattle.table.proofs.Reading.{none-left, bucket-left, none-counted, one-most}
+use Rattle.table.proofs.count_postings.Statement.{statement}
+use Rattle.table.proofs.count_postings.Tie as tie
 
 abbrev Inv-loop : tie.InvT-loop
 Inv-loop table used binding key n₀ i₀ n i =
@@ -66,8 +66,8 @@ returns c =
     let l = c .before .loop .inv .1 .1 in
     omega arith
 
-pub count-of-spec : {M : Type 1} → statement M
-count-of-spec =
+pub count-postings-spec : {M : Type 1} → statement M
+count-postings-spec =
     tie.close
     (tie.spec
     Inv-loop
