@@ -1,4 +1,4 @@
-// The numbers that an operator sees, and what follows from an answer alone.
+// The numbers that an operator sees, and what follows from an answer alone. Nothing here has a `requires`.
 use rules::Answer;
 use rules::Told;
 use rules::Verdict;

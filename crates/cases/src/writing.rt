@@ -49,7 +49,8 @@ fn write_runs(numbers: &[u32]) {
     }
 }
 
-// The sum of a list's numbers, and the sum of the sums on the way. Neither wraps for a list of this program.
+// The sum of a list's numbers, and the sum of the sums on the way. A list of this program is too short for either to
+// wrap, which nothing proves: they wrap all the same if ever it isn't.
 struct Sums {
     sum: u64,
     sums: u64,

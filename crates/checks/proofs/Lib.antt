@@ -1,3 +1,4 @@
+-- The laws of the walks, one file for each kind.
 pub mod Guards
 pub mod Shape
 pub mod Failing

@@ -1,6 +1,6 @@
 // The walks over what an order lends: change list, guards, strip and record; answers 3, 4, 6, 7, 8, 9 and 14. Each looks at its
-// whole list before the next begins. An inner layer, not delivered: the walks that name a change ask for a list that answer 3
-// has passed.
+// whole list before the next begins. An inner layer, not delivered: the walks that name a change ask for a list within its
+// limit, which answer 3 has tested, so that a change number fits a u32.
 use changes::change_at;
 use changes::count_of;
 use changes::destination_of;

@@ -1,3 +1,4 @@
 -- The guarantees.
 pub mod Acceptance
 pub mod History
+pub mod Upstream

@@ -1,3 +1,4 @@
+-- The theorems.
 pub mod Acceptance
 pub mod History
 pub mod Upstream

@@ -1,3 +1,4 @@
+-- The words of each claim.
 pub mod Acceptance
 pub mod History
 pub mod Upstream

@@ -1,3 +1,4 @@
+-- What follows from the rules, from tests and lists up to whole calls.
 pub mod Tests
 pub mod Left
 pub mod Ranks

@@ -1,2 +1,3 @@
+-- The words in which the laws speak.
 pub mod Words
 pub mod Names

@@ -10,7 +10,8 @@ ghost use mathlib.Core.List.{[]};
 ghost use Rattle.refusals.specs.Lending.{lending};
 ghost use Rattle.publish.specs.Promises.{PreparePromise, RollbackPromise, RemovalPromise, PublishPromise, CountPromise};
 
-// What a call answers, and the head that it leaves.
+// What a call answers, and the head that it leaves. The head goes by value: the next call on this table must be given this one,
+// or a poison flag that 12 or 13 set is lost.
 pub struct Done {
     pub head: Head,
     pub answer: Answer,

@@ -1,5 +1,5 @@
-// The checks of each call, in their order: the first that applies is given. Each is made once for a whole call, and none has a
-// `requires`: any numbers may come in.
+// The checks of each call, in their order: the first that applies is given. Each is made once for a whole call. No
+// public function here has a `requires`: any numbers may come in.
 use rules::Answer;
 use rules::Head;
 use rules::Verdict;

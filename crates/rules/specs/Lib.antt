@@ -1,3 +1,4 @@
+-- The rules, in the order in which a reader takes them.
 pub mod Limits
 pub mod Postings
 pub mod Table

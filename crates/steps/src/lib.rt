@@ -1,5 +1,5 @@
-// Prepare, rollback and source removal, step by step, as storage behaves by the strip. An inner layer, not delivered: each asks
-// for a table that carries its postings and for lists that the checks have passed.
+// Prepare, rollback and source removal, step by step, as storage behaves by the strip. An inner layer, not delivered: a step
+// asks for a table in order (Ordered) and a walk for a change list within its limit, which the checks of a whole call have tested.
 use changes::change_at;
 use changes::count_of;
 use changes::destination_of;

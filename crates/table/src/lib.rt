@@ -1,6 +1,6 @@
 // The posting table over a lent list of numbers, three to a posting: well formed, find, insertion, removal, count.
-// An inner layer, not delivered: `find`, `stands`, `insert` and `remove` ask for a table that carries its postings (Ordered), which
-// `well_formed` has tested once for a whole call.
+// An inner layer, not delivered: `find`, `stands`, `insert` and `remove` ask for a table in order (Ordered), which `well_formed`
+// has tested once for a whole call.
 use rules::Head;
 use rules::Order;
 use rules::Posting;

@@ -1,0 +1,43 @@
+-- Upstream's clauses, of the calls themselves: what a call answered and left meets every clause that the rules' outcome meets.
+use Prim.Native.Nat.{ℕ}
+use mathlib.Core.Path.{_≡_, sym, _∙_}
+use mathlib.Core.List.{List}
+use mathlib.Core.Bool.{true}
+use lib.ListN.{length}
+use Rattle.rules.specs.declared.Answer.{Answer}
+use Rattle.rules.specs.declared.Head.{Head}
+use Rattle.rules.specs.Orders.{properStrip, destinations}
+use Rattle.rules.specs.Answers.{isAccepted}
+use Rattle.rules.specs.Checks.{Call, changesOf}
+use Rattle.rules.specs.Calls.{asBefore, prepareOf, rollbackOf, removalOf}
+use Rattle.laws.specs.Words.{Quiet}
+use Rattle.history.specs.Upstream.{PrepareClauses, RollbackClauses, RemovalClauses, backOf}
+use Rattle.history.proofs.Upstream as law
+use Rattle.history.proofs.Restores as restored
+use Rattle.publish.specs.declared.Done.{Done}
+use Rattle.publish.specs.Promises.{outcomeOf, PreparePromise, RollbackPromise, RemovalPromise}
+use Rattle.publish.proofs.Outcomes.{seen-outcome}
+
+module _ (head : Head) (table : List ℕ) (c : Call) (r : Done) (t l : List ℕ) where
+  pub prepare-clauses : PreparePromise head table c r t l → PrepareClauses head table c (outcomeOf r t l)
+  prepare-clauses k = rw (seen-outcome r t l (prepareOf head table c) k) (law.prepare-clauses head table c)
+
+  pub rollback-clauses : RollbackPromise head table c r t l → RollbackClauses head table c (outcomeOf r t l)
+  rollback-clauses k = rw (seen-outcome r t l (rollbackOf head table c) k) (law.rollback-clauses head table c)
+
+  pub removal-clauses : RemovalPromise head table c r t l → RemovalClauses head table c (outcomeOf r t l)
+  removal-clauses k = rw (seen-outcome r t l (removalOf head table c) k) (law.removal-clauses head table c)
+
+-- a rollback of an accepted prepare, lent the part of the record that the prepare named, with no storage failure: table and head
+-- are those from before the prepare, number for number
+pub rollback-restores :
+    (head : Head) (table : List ℕ) (c : Call) (strip : List ℕ) (r r′ : Done) (t t′ l l′ : List ℕ) →
+    PreparePromise head table c r t l → isAccepted (r .answer) ≡ true → properStrip strip ≡ true →
+    Quiet strip 0 (length (destinations (changesOf c))) →
+    RollbackPromise (r .head) t (backOf c (outcomeOf r t l) strip) r′ t′ l′ →
+    outcomeOf r′ t′ l′ ≡ asBefore head table (backOf c (outcomeOf r t l) strip .recordList) (Answer.Accepted 0)
+rollback-restores head table c strip r r′ t t′ l l′ k a s q k′ =
+    let e : prepareOf head table c ≡ outcomeOf r t l = sym (seen-outcome r t l (prepareOf head table c) k) in
+    let ok : isAccepted (prepareOf head table c .answer) ≡ true = rw e a in
+    seen-outcome r′ t′ l′ (rollbackOf (r .head) t (backOf c (outcomeOf r t l) strip)) k′
+    ∙ (rw e at (restored.rollback-restores head table c strip ok s q))
