@@ -57,13 +57,13 @@ pub fn prepare(
         (destinations (changes (now (list .entry)))) (now («record» .entry)))
         (prepared head (now (table .entry)) (lending (now (list .entry)) [] (now (strip .entry)) [])) ⌝ }
 {
-    let reached = steps::prepare(table, list, strip, head.used as usize);
-    let answer = reached.answer;
+    let inserted = steps::prepare(table, list, strip, head.used as usize);
+    let answer = inserted.answer;
     if is_accepted(answer) {
         steps::write_record(list, record);
-        return done(head, reached);
+        return done(head, inserted);
     }
-    done(head, reached)
+    done(head, inserted)
 }
 
 // Sources stay until every destination is in.
@@ -82,14 +82,14 @@ pub fn publish(
         (thenSources (now (strip .entry)) (sources (changes (now (list .entry))))
         (prepared head (now (table .entry)) (lending (now (list .entry)) [] (now (strip .entry)) []))) ⌝ }
 {
-    let reached = steps::prepare(table, list, strip, head.used as usize);
-    let answer = reached.answer;
+    let brought = steps::prepare(table, list, strip, head.used as usize);
+    let answer = brought.answer;
     if is_accepted(answer) {
         steps::write_record(list, record);
-        let cleared = steps::remove_sources(table, list, strip, answer, reached.used, reached.read);
+        let cleared = steps::remove_sources(table, list, strip, answer, brought.used, brought.read);
         return done(head, cleared);
     }
-    done(head, reached)
+    done(head, brought)
 }
 
 // Accepted where no removal failed, else 12 with the last change whose removal did.

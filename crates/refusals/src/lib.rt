@@ -30,8 +30,9 @@ fn of_table(head: Head, table: &[u32]) -> Verdict
 // 3 LIST, 4 STRIP.
 fn of_lists(list: &[u32], pairs: &[u32], strip: &[u8]) -> Verdict
     ensures { λ r. ⌜ r ≡ firstRefusal
-        (listCheck (lending (now (list .entry)) (now (pairs .entry)) (now (strip .entry)) []) ∷ stripCheck
-        (lending (now (list .entry)) (now (pairs .entry)) (now (strip .entry)) []) ∷ []) ⌝ }
+        (listCheck (lending (now (list .entry)) (now (pairs .entry)) (now (strip .entry)) [])
+        ∷ stripCheck (lending (now (list .entry)) (now (pairs .entry)) (now (strip .entry)) [])
+        ∷ []) ⌝ }
 {
     if checks::proper_lists(list, pairs) {
         if checks::proper_strip(strip) {
@@ -56,9 +57,10 @@ fn of_room(list: &[u32], record: &[u32]) -> Verdict
 fn of_destinations(head: Head, table: &[u32], list: &[u32], pairs: &[u32]) -> Verdict
     requires { ⌜ (wellFormed head (now table) ≡ true) × (length (changes (now list)) ≤ mostChanges) ⌝ }
     ensures { λ r. ⌜ r ≡ firstRefusal
-        (guardCheck head (lending (now (list .entry)) (now (pairs .entry)) [] []) ∷ twiceCheck
-        (lending (now (list .entry)) (now (pairs .entry)) [] []) ∷ presentCheck head (now (table .entry))
-        (lending (now (list .entry)) (now (pairs .entry)) [] []) ∷ []) ⌝ }
+        (guardCheck head (lending (now (list .entry)) (now (pairs .entry)) [] [])
+        ∷ twiceCheck (lending (now (list .entry)) (now (pairs .entry)) [] [])
+        ∷ presentCheck head (now (table .entry)) (lending (now (list .entry)) (now (pairs .entry)) [] [])
+        ∷ []) ⌝ }
 {
     let guarded = checks::check_guards(head.bindings, list, pairs);
     let Verdict::Passes = guarded else {
