@@ -14,13 +14,13 @@ use Rattle.rules.specs.declared.Verdict.{Verdict}
 use Rattle.rules.specs.Table.{capacity, postings}
 use Rattle.rules.specs.Orders.{Numbered, byteAt, named, destinationOf, destinationsFrom, noChange}
 use Rattle.rules.specs.Storage.{insertion}
-use Rattle.rules.specs.Publication.{undoing, notInserted, byFault, preparing}
+use Rattle.rules.specs.Publication.{Undone, Stage, undoing, notInserted, byFault, preparing}
 use Rattle.changes.proofs.Walk.{destinations-left, destinations-none}
 use Rattle.table.specs.Holding.{Ordered}
 use Rattle.table.proofs.Keeping.{carries-postings, carries-ordered}
 use Rattle.steps.specs.declared.Inserted.{Inserted}
 use Rattle.steps.specs.declared.Reached.{Reached}
-use Rattle.steps.specs.Leaving.{InsertionIn, StageIn, backward, inOrder}
+use Rattle.steps.specs.Leaving.{InsertionIn, blamedOn, StageIn, backward, inOrder}
 
 -- a prepare that has come up to i, with so many postings inserted
 pub record Preparing (cs : List Change) (strip : List ℕ) (used₀ : ℕ) (t₀ t : List ℕ) (used read inserted i : ℕ) : Type 0 where
@@ -59,6 +59,21 @@ prepare-start cs strip used t h =
       ordered = h;
       is = ap (λ done. preparing (capacity t) strip (destinationsFrom 0 cs) done 0 (postings used t)) (none-back cs);
     }
+
+-- no fault is blamed on no change, and the blame that there is ends the prepare
+none-blamed : (fault : Fault) (change : ℕ) → blamedOn fault change ≡ Verdict.Passes → fault ≡ Fault.Nothing
+none-blamed Fault.Nothing change e = refl
+none-blamed Fault.Store change e = let z : _≡_ {A = ℕ} 0 1 = cc in absurd (omega arith)
+none-blamed Fault.Full change e = let z : _≡_ {A = ℕ} 0 1 = cc in absurd (omega arith)
+
+blamed-ends :
+    (fault : Fault) (change : ℕ) (why : Answer) → blamedOn fault change ≡ Verdict.Refused why → (back : Undone) (next : Stage) →
+    byFault fault change back next ≡ notInserted why change back
+blamed-ends Fault.Nothing change why e back next = let z : _≡_ {A = ℕ} 0 1 = cc in absurd (omega arith)
+blamed-ends Fault.Store change why e back next =
+    let same : Answer.Store change ≡ why = cc in ap (λ (a : Answer). notInserted a change back) same
+blamed-ends Fault.Full change why e back next =
+    let same : Answer.Full change ≡ why = cc in ap (λ (a : Answer). notInserted a change back) same
 
 -- one change further, the list of what is to be undone begins with its destination
 backward-more :
@@ -128,7 +143,7 @@ module _ {cs : List Change} {strip : List ℕ} {used₀ : ℕ} {t₀ t : List �
           ∙ rw (← z .len, ← eb, sym (o .fault) ∙ e, carries-postings _ _ _ (o .carries), backward-more cs i c (Key.Named key) ec ek))
 
       pub prepare-clear :
-          r .fault ≡ Fault.Nothing → length t′ ≡ length t →
+          blamedOn (r .fault) i ≡ Verdict.Passes → length t′ ≡ length t →
           Preparing cs strip used₀ t₀ t′ (r .used) (read + 1) (inserted + 1) (i + 1)
       prepare-clear e l =
           let f = z .few in
@@ -142,22 +157,19 @@ module _ {cs : List Change} {strip : List ℕ} {used₀ : ℕ} {t₀ t : List �
             count = omega arith;
             len = l ∙ z .len;
             ordered = carries-ordered _ _ _ (o .carries);
-            is = stepped Fault.Nothing e;
+            is = stepped Fault.Nothing (none-blamed (r .fault) i e);
           }
 
       -- the insertion failed: what undo reaches is what the whole reaches
       pub prepare-stop :
-          (fault : Fault) (why : Answer) (reached : Reached) (t″ : List ℕ) → r .fault ≡ fault →
-          byFault fault i (undoing strip (backward inOrder i cs) Verdict.Passes (read + 1) (postings (r .used) t′))
-          (preparing (capacity t₀) strip (destinationsFrom (i + 1) (drop (i + 1) cs)) (backward inOrder (i + 1) cs)
-          (read + 1) (postings (r .used) t′))
-          ≡ notInserted why i (undoing strip (backward inOrder i cs) Verdict.Passes (read + 1) (postings (r .used) t′)) →
+          (why : Answer) (reached : Reached) (t″ : List ℕ) → blamedOn (r .fault) i ≡ Verdict.Refused why →
           StageIn
           (notInserted why i (undoing strip (backward inOrder i cs) Verdict.Passes (read + 1) (postings (r .used) t′)))
           reached t″ (read + 1 + i) →
           StageIn (preparing (capacity t₀) strip (destinationsFrom 0 cs) [] 0 (postings used₀ t₀)) reached t″
           (length cs * 2 + 1)
-      prepare-stop fault why reached t″ e same u =
+      prepare-stop why reached t″ e u =
           let f = z .few in
           let m = u .few in
-          rw (stepped fault e ∙ same) (record { answer = u .answer; carries = u .carries; read = u .read; few = omega arith })
+          rw (stepped (r .fault) refl ∙ blamed-ends (r .fault) i why e _ _)
+          (record { answer = u .answer; carries = u .carries; read = u .read; few = omega arith })

@@ -98,4 +98,5 @@ module _ {cs : List Change} {strip : List ℕ} {clear : Answer} {read₀ used₀
           (record { answer = Answer.Source i; used = r .used; read = read + 1 }) t′ (read₀ + length cs)
       remove-stop e =
           let f = z .few in
-          rw (stepped true e) (record { answer = refl; carries = carries-ordered _ _ _ (o .carries); read = refl; few = omega arith })
+          rw (stepped true e)
+          (record { answer = refl; carries = carries-ordered _ _ _ (o .carries); read = refl; few = omega arith })

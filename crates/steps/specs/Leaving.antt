@@ -3,7 +3,10 @@ use Prim.Native.Nat.{ℕ, zero, suc, _+_, _≤_}
 use mathlib.Core.Path.{_≡_}
 use mathlib.Core.List.{List, []}
 use lib.ListN.{getD}
+use Rattle.rules.specs.declared.Answer.{Answer}
 use Rattle.rules.specs.declared.Change.{Change}
+use Rattle.rules.specs.declared.Fault.{Fault}
+use Rattle.rules.specs.declared.Verdict.{Verdict}
 use Rattle.rules.specs.Table.{postings}
 use Rattle.rules.specs.Orders.{Numbered, named, destinationOf, noChange}
 use Rattle.rules.specs.Storage.{Insertion, Removal}
@@ -18,6 +21,12 @@ use Rattle.steps.specs.declared.Reached.{Reached}
 pub record InsertionIn (i : Insertion) (r : Inserted) (table : List ℕ) : Type 0 where
   pub fault : r .fault ≡ i .fault
   pub carries : Carries table (r .used) (i .postings)
+
+-- the answer of a change whose insertion met a fault
+abbrev pub blamedOn : Fault → ℕ → Verdict
+blamedOn Fault.Nothing change = Verdict.Passes
+blamedOn Fault.Store change = Verdict.Refused (Answer.Store change)
+blamedOn Fault.Full change = Verdict.Refused (Answer.Full change)
 
 -- a removal in a table
 pub record RemovalIn (o : Removal) (r : Removed) (table : List ℕ) : Type 0 where

@@ -25,7 +25,7 @@ ghost use Rattle.rules.specs.Storage.{insertion, removal};
 ghost use Rattle.rules.specs.Publication.{undoing, notInserted, preparing, removing};
 ghost use Rattle.rules.specs.Calls.{written};
 ghost use Rattle.table.specs.Holding.{Ordered};
-ghost use Rattle.steps.specs.Leaving.{InsertionIn, RemovalIn, UndoneIn, OneUndone, StageIn, backward, inOrder};
+ghost use Rattle.steps.specs.Leaving.{InsertionIn, blamedOn, RemovalIn, UndoneIn, OneUndone, StageIn, backward, inOrder};
 
 // What an insertion met, and the new used.
 pub struct Inserted {
@@ -85,6 +85,17 @@ fn insert_by(byte: u8, table: &mut [u32], used: usize, p: Posting) -> Inserted
     Inserted {
         fault: Fault::Full,
         used,
+    }
+}
+
+// The answer of a change whose insertion met a fault.
+fn blamed(fault: Fault, change: u32) -> Verdict
+    ensures { λ r. ⌜ r ≡ blamedOn fault change ⌝ }
+{
+    match fault {
+        Fault::Nothing => Verdict::Passes,
+        Fault::Store => Verdict::Refused(Answer::Store(change)),
+        Fault::Full => Verdict::Refused(Answer::Full(change)),
     }
 }
 
@@ -242,21 +253,13 @@ pub fn prepare(table: &mut [u32], list: &[u32], strip: &[u8], used: usize) -> Re
         let put = insert_by(byte_at(strip, read), table, used, posting);
         read += 1;
         let fault = put.fault;
-        match fault {
-            Fault::Nothing => {
-                used = put.used;
-                inserted += 1;
-                i += 1;
-            }
-            Fault::Store => {
-                let why = Answer::Store(i as u32);
-                return not_inserted(table, list, strip, i, why, put.used, read);
-            }
-            Fault::Full => {
-                let why = Answer::Full(i as u32);
-                return not_inserted(table, list, strip, i, why, put.used, read);
-            }
-        }
+        let Verdict::Refused(why) = blamed(fault, i as u32) else {
+            used = put.used;
+            inserted += 1;
+            i += 1;
+            continue;
+        };
+        return not_inserted(table, list, strip, i, why, put.used, read);
     }
     Reached {
         answer: Answer::Accepted(inserted),

@@ -1,7 +1,7 @@
 -- What is left of the list, prepared from here, gives the whole; a failed insertion ends it with the undo.
 use Prim.Native.Nat.{_-_}
 use native.Mathlib.Omega.{arith}
-use mathlib.Core.Path.{refl, sym, _∙_}
+use mathlib.Core.Path.{sym, _∙_}
 use borrow.Author.Needs.{needs}
 use Rattle.rules.specs.Orders.{changes}
 use Rattle.table.proofs.Keeping.{carries-ordered}
@@ -63,15 +63,24 @@ add-read c =
     .low in
     omega arith
 
+cast-blamed : tie.Need-cast-blamed Inv-loop μ-loop
+cast-blamed c = search needs
+
+blamed-requires : tie.Need-blamed-requires Inv-loop μ-loop
+blamed-requires c κs = search needs
+
+enum-known-why : tie.Need-enum-known-why Inv-loop μ-loop
+enum-known-why c = search needs
+
 enum-told-2 : tie.Need-enum-told-2 Inv-loop μ-loop
 enum-told-2 c = search needs
 
 add-inserted : tie.Need-add-inserted Inv-loop μ-loop
 add-inserted c =
     let s = c .before .before .before .before .before .before .before .before .before .before .before .before .before
-    .before .loop .inv .some in
+    .before .before .loop .inv .some in
     let l = c .before .before .before .before .before .before .before .before .before .before .before .before .before
-    .before .loop .inv .low in
+    .before .before .loop .inv .low in
     omega arith
 
 add-i-2 : tie.Need-add-i-2 Inv-loop μ-loop
@@ -83,128 +92,86 @@ loop-less-2 c = search needs
 loop-again-2 : tie.Need-loop-again-2 Inv-loop μ-loop
 loop-again-2 c =
     prepare-clear
-    (c .before .before .before .before .before .before .before .before .before .before .before .before .before .before .loop
-    .inv)
+    (c .before .before .before .before .before .before .before .before .before .before .before .before .before .before
+    .before .loop .inv)
     (omega (
       arith,
-      c .before .before .before .before .before .before .before .before .before .before .before .before .before
+      c .before .before .before .before .before .before .before .before .before .before .before .before .before .before
           .loop-test .taken,
       c .before .before .before .before .before .before .before .before .before .before .before .before
-          .before .before .before .count-of .ensures,
+          .before .before .before .before .count-of .ensures,
     ))
     _
-    (c .before .before .before .before .before .before .before .before .before .before .before .before .change-at .ensures)
+    (c .before .before .before .before .before .before .before .before .before .before .before .before .before .change-at
+    .ensures)
     _ _ _ _
-    (sym (c .before .before .before .before .before .before .before .before .before .before .before .destination-of .ensures)
-    ∙ c .before .before .before .before .before .before .before .before .before .key .given .1)
-    (c .before .before .before .before .before .before .byte-at .ensures)
-    (rw (c .before .before .before .before .before .before .before .posting-of .ensures) at
-    (c .before .before .before .before .insert-by .ensures))
-    (c .enum-told2 .given .1) (c .before .before .before .before .insert-by .kept .1 .0)
-
-enum-told-3 : tie.Need-enum-told-3 Inv-loop μ-loop
-enum-told-3 c = search needs
-
-cast-t22 : tie.Need-cast-t22 Inv-loop μ-loop
-cast-t22 c = search needs
+    (sym
+    (c .before .before .before .before .before .before .before .before .before .before .before .before .destination-of
+    .ensures)
+    ∙ c .before .before .before .before .before .before .before .before .before .before .key .given .1)
+    (c .before .before .before .before .before .before .before .byte-at .ensures)
+    (rw (c .before .before .before .before .before .before .before .before .posting-of .ensures) at
+    (c .before .before .before .before .before .insert-by .ensures))
+    (sym (c .before .before .blamed .ensures) ∙ c .enum-told2 .given .1)
+    (c .before .before .before .before .before .insert-by .kept .1 .0)
 
 not-inserted-requires : tie.Need-not-inserted-requires Inv-loop μ-loop
 not-inserted-requires c κs =
     let f = c .before .before .before .before .before .before .before .before .before .before .before .before .before
-    .before .before .loop .inv .few in
+    .before .before .before .before .loop .inv .few in
     let l = c .before .before .before .before .before .before .before .before .before .before .before .before .before
-    .before .before .loop .inv .low in (
-      carries-ordered _ _ _ (c .before .before .before .before .before .insert-by .ensures .carries),
-      ((l, c .before .before .before .before .before .before .before .before .before .before .before .before .before .before .before .before .before .before .before .before .pre .1), omega arith),
+    .before .before .before .before .loop .inv .low in (
+      carries-ordered _ _ _ (c .before .before .before .before .before .before .before .insert-by .ensures .carries),
+      (
+        (l, c .before .before .before .before .before .before .before .before .before .before .before .before .before .before .before .before .before .before .before .before .before .before .pre .1),
+        omega arith,
+      ),
     )
 
 same-length : tie.Need-same-length Inv-loop μ-loop
 same-length c =
     c .before .before .not-inserted .kept .0 ∙
-    (c .before .before .before .before .before .before .before .before .insert-by .kept .1 .0 ∙ c .before .before .before
+    (c .before .before .before .before .before .before .before .before .before .before .insert-by .kept .1 .0 ∙ c .before
     .before .before .before .before .before .before .before .before .before .before .before .before .before .before .before
-    .loop .inv .len)
+    .before .before .before .before .loop .inv .len)
 
 returns : tie.Need-returns Inv-loop μ-loop
 returns c =
     prepare-stop
     (c .before .before .before .before .before .before .before .before .before .before .before .before .before .before
-    .before .before .before .before .loop .inv)
+    .before .before .before .before .before .before .loop .inv)
     (omega (
       arith,
       c .before .before .before .before .before .before .before .before .before .before .before .before .before .before
-          .before .before .before .loop-test .taken,
-      c .before .before .before .before .before .before .before .before .before
-          .before .before .before .before .before .before .before .before .before .before .count-of .ensures,
+          .before .before .before .before .before .loop-test .taken,
+      c .before .before .before .before .before .before .before
+          .before .before .before .before .before .before .before .before .before .before .before .before .before .before
+          .count-of .ensures,
     ))
     _
     (c .before .before .before .before .before .before .before .before .before .before .before .before .before .before
-    .before .before .change-at .ensures)
+    .before .before .before .before .change-at .ensures)
     _ _ _ _
     (sym
     (c .before .before .before .before .before .before .before .before .before .before .before .before .before .before
-    .before .destination-of .ensures)
-    ∙ c .before .before .before .before .before .before .before .before .before .before .before .before .before .key .given
-    .1)
-    (c .before .before .before .before .before .before .before .before .before .before .byte-at .ensures)
-    (rw (c .before .before .before .before .before .before .before .before .before .before .before .posting-of .ensures) at
-    (c .before .before .before .before .before .before .before .before .insert-by .ensures))
-    _ _ _ _ (c .before .before .before .before .enum-told3 .given .1) refl (c .before .before .not-inserted .ensures)
-
-enum-told-4 : tie.Need-enum-told-4 Inv-loop μ-loop
-enum-told-4 c = search needs
-
-cast-t25 : tie.Need-cast-t25 Inv-loop μ-loop
-cast-t25 c = search needs
-
-not-inserted-requires-2 : tie.Need-not-inserted-requires-2 Inv-loop μ-loop
-not-inserted-requires-2 c κs =
-    let f = c .before .before .before .before .before .before .before .before .before .before .before .before .before
-    .before .before .loop .inv .few in
-    let l = c .before .before .before .before .before .before .before .before .before .before .before .before .before
-    .before .before .loop .inv .low in (
-      carries-ordered _ _ _ (c .before .before .before .before .before .insert-by .ensures .carries),
-      ((l, c .before .before .before .before .before .before .before .before .before .before .before .before .before .before .before .before .before .before .before .before .pre .1), omega arith),
-    )
+    .before .before .before .destination-of .ensures)
+    ∙ c .before .before .before .before .before .before .before .before .before .before .before .before .before .before
+    .before .key .given .1)
+    (c .before .before .before .before .before .before .before .before .before .before .before .before .byte-at .ensures)
+    (rw
+    (c .before .before .before .before .before .before .before .before .before .before .before .before .before .posting-of
+    .ensures)
+    at (c .before .before .before .before .before .before .before .before .before .before .insert-by .ensures))
+    _ _ _
+    (sym (c .before .before .before .before .before .before .before .blamed .ensures) ∙ c .before .before .before .before
+    .before .why .given .1)
+    (c .before .before .not-inserted .ensures)
 
 same-length-2 : tie.Need-same-length-2 Inv-loop μ-loop
-same-length-2 c =
-    c .before .before .not-inserted2 .kept .0 ∙
-    (c .before .before .before .before .before .before .before .before .insert-by .kept .1 .0 ∙ c .before .before .before
-    .before .before .before .before .before .before .before .before .before .before .before .before .before .before .before
-    .loop .inv .len)
+same-length-2 c = c .before .loop .inv .len
 
 returns-2 : tie.Need-returns-2 Inv-loop μ-loop
-returns-2 c =
-    prepare-stop
-    (c .before .before .before .before .before .before .before .before .before .before .before .before .before .before
-    .before .before .before .before .loop .inv)
-    (omega (
-      arith,
-      c .before .before .before .before .before .before .before .before .before .before .before .before .before .before
-          .before .before .before .loop-test .taken,
-      c .before .before .before .before .before .before .before .before .before
-          .before .before .before .before .before .before .before .before .before .before .count-of .ensures,
-    ))
-    _
-    (c .before .before .before .before .before .before .before .before .before .before .before .before .before .before
-    .before .before .change-at .ensures)
-    _ _ _ _
-    (sym
-    (c .before .before .before .before .before .before .before .before .before .before .before .before .before .before
-    .before .destination-of .ensures)
-    ∙ c .before .before .before .before .before .before .before .before .before .before .before .before .before .key .given
-    .1)
-    (c .before .before .before .before .before .before .before .before .before .before .byte-at .ensures)
-    (rw (c .before .before .before .before .before .before .before .before .before .before .before .posting-of .ensures) at
-    (c .before .before .before .before .before .before .before .before .insert-by .ensures))
-    _ _ _ _ (c .before .before .before .before .enum-told4 .given .1) refl (c .before .before .not-inserted2 .ensures)
-
-same-length-3 : tie.Need-same-length-3 Inv-loop μ-loop
-same-length-3 c = c .before .loop .inv .len
-
-returns-3 : tie.Need-returns-3 Inv-loop μ-loop
-returns-3 c = prepare-end (c .before .loop .inv) (omega arith)
+returns-2 c = prepare-end (c .before .loop .inv) (omega arith)
 
 pub prepare-spec : {M : Type 1} → statement M
 prepare-spec =
@@ -225,20 +192,16 @@ prepare-spec =
     byte-at-requires
     insert-by-requires
     add-read
+    cast-blamed
+    blamed-requires
+    enum-known-why
     enum-told-2
     add-inserted
     add-i-2
     loop-less-2
     loop-again-2
-    enum-told-3
-    cast-t22
     not-inserted-requires
     same-length
     returns
-    enum-told-4
-    cast-t25
-    not-inserted-requires-2
     same-length-2
-    returns-2
-    same-length-3
-    returns-3)
+    returns-2)
