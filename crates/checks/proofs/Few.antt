@@ -8,7 +8,7 @@ use lib.ListN.{length}
 use lib.Dec.{eqb}
 use borrow.Author.Tests.{eqb-true, eqb-false}
 use Rattle.rules.specs.Checks.{among}
-use Rattle.laws.proofs.Tests.{or-left, or-right, neither}
+use Rattle.booleans.proofs.Tests.{or-left, or-right, neither}
 
 pub data Few (bound : ℕ) : List ℕ → Type 0 where
   none : Few bound []

@@ -1,4 +1,4 @@
--- Answers 3 and 4: the limits of lent lists, and what must hold of each change and byte from a place on.
+-- Answer 3: the limits of lent lists, and what must hold of each change from a place on.
 use Prim.Native.Nat.{ℕ, _+_, _/_, _%_, _<_, _≤_}
 use native.Mathlib.Omega.{arith}
 use mathlib.Core.Path.{_≡_, refl, _∙_}
@@ -6,11 +6,9 @@ use mathlib.Core.List.{List, [], _∷_}
 use mathlib.Core.Bool.{Bool, true, false, _&&_, and-true, and-false}
 use lib.ListN.{length, drop, getD, length-drop, drop-of-length-le}
 use lib.Seq.{getD-drop, drop-drop}
-use lib.Dec.{leb}
 use borrow.Author.Tests.{le-leb, lt-leb, eq-eqb, ne-eqb}
-use Rattle.rules.specs.Limits.{mostChanges, mostGuards, mostBytes}
-use Rattle.rules.specs.Postings.{every}
-use Rattle.rules.specs.Orders.{properKey, changes, properChanges, properLists, properStrip}
+use Rattle.rules.specs.Limits.{mostChanges, mostGuards}
+use Rattle.rules.specs.Orders.{properKey, changes, properChanges, properLists}
 use Rattle.checks.specs.Keys.{properAt}
 use Rattle.checks.proofs.Guards.{guards-length}
 
@@ -74,12 +72,3 @@ module _ (cs gs : List ℕ) where
             mostGuards n,
       )
       (simp and-true)
-
-pub strip-over : (strip : List ℕ) → mostBytes < length strip → properStrip strip ≡ false
-unfolding properStrip
-strip-over strip h = rw (lt-leb (length strip) mostBytes h)
-
-pub strip-within :
-    (strip : List ℕ) → length strip ≤ mostBytes → properStrip strip ≡ every (λ byte. leb byte 2) strip
-unfolding properStrip
-strip-within strip h = rw (le-leb (length strip) mostBytes h)

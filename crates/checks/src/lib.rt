@@ -1,5 +1,5 @@
-// The walks over what an order lends: change list, guards, strip and record; answers 3, 4, 6, 7, 8, 9 and 14. Each looks at its
-// whole list before the next begins. An inner layer, not delivered: the walks that name a change ask for a list within its
+// The walks over what an order lends: change list, guards and record; answers 3, 6, 7, 8, 9 and 14. Each looks at its whole
+// list before the next begins. An inner layer, not delivered: the walks that name a change ask for a list within its
 // limit, which answer 3 has tested, so that a change number fits a u32.
 use changes::change_at;
 use changes::count_of;
@@ -20,7 +20,7 @@ ghost use Rattle.rules.specs.declared.Answer.{Answer};
 ghost use Rattle.rules.specs.Limits.{mostChanges};
 ghost use Rattle.rules.specs.Postings.{present};
 ghost use Rattle.rules.specs.Table.{postings};
-ghost use Rattle.rules.specs.Orders.{properKey, properChanges, properLists, properStrip, guards, changes, held, destinationOf, destinations, sources, noChange, Numbered, postingsOf};
+ghost use Rattle.rules.specs.Orders.{properKey, properChanges, properLists, guards, changes, held, destinationOf, destinations, sources, noChange, Numbered, postingsOf};
 ghost use Rattle.rules.specs.Checks.{firstFailing, heldKey, guarded, isNamed, recordable, among, recordFrom, twiceFrom};
 ghost use Rattle.table.specs.Holding.{Ordered};
 ghost use Rattle.checks.specs.Keys.{properAt, goesTo, oneDestination, destinationIn, sourceIn};
@@ -29,8 +29,6 @@ ghost use Rattle.checks.specs.Keys.{properAt, goesTo, oneDestination, de
 pub const MOST_CHANGES: usize = 256;
 
 pub const MOST_GUARDS: usize = 1024;
-
-pub const MOST_BYTES: usize = 1024;
 
 // A flag is 0 or 1; with flag 0 the key is 0.
 fn proper_key(flag: u32, key: u32) -> bool
@@ -85,23 +83,6 @@ pub fn proper_lists(list: &[u32], pairs: &[u32]) -> bool
         return false;
     }
     proper_changes(list)
-}
-
-// 4 STRIP passes: not over its limit, and no byte above 2.
-pub fn proper_strip(strip: &[u8]) -> bool
-    ensures { λ r. ⌜ r ≡ properStrip (now (strip .entry)) ⌝ }
-{
-    if strip.len() > MOST_BYTES {
-        return false;
-    }
-    let mut i = 0;
-    while i < strip.len() {
-        if strip[i] > 2 {
-            return false;
-        }
-        i += 1;
-    }
-    true
 }
 
 // The pair (binding, key) is among the guards, which lie two numbers to each.

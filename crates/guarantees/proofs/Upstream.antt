@@ -4,9 +4,10 @@ use mathlib.Core.Path.{_≡_, sym, _∙_}
 use mathlib.Core.List.{List}
 use mathlib.Core.Bool.{true}
 use lib.ListN.{length}
+use Rattle.strips.specs.Strips.{properStrip}
 use Rattle.rules.specs.declared.Answer.{Answer}
 use Rattle.rules.specs.declared.Head.{Head}
-use Rattle.rules.specs.Orders.{properStrip, destinations}
+use Rattle.rules.specs.Orders.{destinations}
 use Rattle.rules.specs.Answers.{isAccepted}
 use Rattle.rules.specs.Checks.{Call, changesOf}
 use Rattle.rules.specs.Calls.{asBefore, prepareOf, rollbackOf, removalOf}

@@ -8,17 +8,18 @@ use mathlib.Core.List.{List, []}
 use mathlib.Core.Bool.{true, false, not}
 use mathlib.Core.Logic.{_↔_, _⊎_, inl, inr, ⊎-elim}
 use lib.ListN.{length}
+use Rattle.strips.specs.Strips.{byteAt}
 use Rattle.rules.specs.declared.Head.{Head}
 use Rattle.rules.specs.declared.Answer.{Answer}
 use Rattle.rules.specs.declared.Verdict.{Verdict}
 use Rattle.rules.specs.Postings.{counted, ascending}
 use Rattle.rules.specs.Table.{postings, capacity, laidOut}
-use Rattle.rules.specs.Orders.{Numbered, byteAt, destinations, sources}
+use Rattle.rules.specs.Orders.{Numbered, destinations, sources}
 use Rattle.rules.specs.Answers.{settled, isAccepted}
 use Rattle.rules.specs.Checks.{countChecks, Call, prepareChecks, rollbackChecks, removalChecks, publishChecks}
 use Rattle.rules.specs.Calls.{countOf, Outcome, prepared, prepareOf, rollbackOf, removalOf, publishOf}
 use Rattle.laws.specs.Words.{added, takenAway, numberAt, Quiet, Noisy}
-use Rattle.laws.proofs.Tests.{clash}
+use Rattle.booleans.proofs.Tests.{clash}
 use Rattle.laws.proofs.Ranks.{Tri, less, equal, more, tri}
 use Rattle.laws.proofs.Flat.{well-formed-parts, used-postings, postings-laid-out}
 use Rattle.laws.proofs.Answers.{refusal-unchanged, unchanged-accepts-not}

@@ -7,18 +7,19 @@ use mathlib.Core.Bool.{Bool, true, false, cond, not, _&&_}
 use lib.ListN.{length}
 use lib.Dec.{ltb}
 use borrow.Author.Tests.{eq-eqb, not-true}
+use Rattle.strips.specs.Strips.{properBytes, properStrip}
 use Rattle.rules.specs.declared.Posting.{Posting}
 use Rattle.rules.specs.declared.Head.{Head}
 use Rattle.rules.specs.declared.Answer.{Answer}
 use Rattle.rules.specs.declared.Verdict.{Verdict}
-use Rattle.rules.specs.Postings.{every, ascending, present, bucket, counted}
+use Rattle.rules.specs.Postings.{ascending, present, bucket, counted}
 use Rattle.rules.specs.Table.{postings, wellFormed}
-use Rattle.rules.specs.Orders.{properStrip, destinations, sources}
+use Rattle.rules.specs.Orders.{destinations, sources}
 use Rattle.rules.specs.Answers.{isAccepted, poisons, settled}
 use Rattle.rules.specs.Checks.{Call, changesOf, must, orElse, firstRefusal, tableCheck, poisonCheck, listCheck, stripCheck, roomCheck, guardCheck, twiceCheck, presentCheck, overlapCheck, publishChecks, countChecks}
 use Rattle.rules.specs.Calls.{Outcome, headWith, asBefore, countOf}
 use Rattle.laws.specs.Words.{added, takenAway}
-use Rattle.laws.proofs.Tests.{clash, and-left, and-right}
+use Rattle.booleans.proofs.Tests.{clash, and-left, and-right}
 use Rattle.laws.proofs.Flat.{well-formed-parts, used-postings, laid-out-same, postings-laid-out}
 use Rattle.laws.proofs.Answers.{Kind, kind}
 use Rattle.laws.proofs.Checks.{first-passes, rest-passes, cons-passes}
@@ -144,7 +145,7 @@ said-set (c ∷ cs) ps p =
 
 -- with an empty strip an accepted call is accepted just so
 strip-passes : (c : Call) → stripCheck (quiet c) ≡ Verdict.Passes
-unfolding stripCheck properStrip every
+unfolding stripCheck properStrip properBytes
 strip-passes c = refl
 
 quiet-passes :

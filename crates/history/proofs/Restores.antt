@@ -8,11 +8,12 @@ use mathlib.Core.Bool.{true, cond}
 use lib.ListN.{length, take, drop, length-map, length-reverse}
 use lib.Seq.{take-at}
 use borrow.Author.Tests.{eq-eqb}
+use Rattle.strips.specs.Strips.{properStrip}
 use Rattle.rules.specs.declared.Head.{Head}
 use Rattle.rules.specs.declared.Answer.{Answer}
 use Rattle.rules.specs.declared.Verdict.{Verdict}
 use Rattle.rules.specs.Table.{postings, laidOut}
-use Rattle.rules.specs.Orders.{Numbered, properStrip, destinations, numbersOf, recorded}
+use Rattle.rules.specs.Orders.{Numbered, destinations, numbersOf, recorded}
 use Rattle.rules.specs.Answers.{isAccepted, poisons, settled}
 use Rattle.rules.specs.Checks.{Call, changesOf, tableCheck, poisonCheck, listCheck, stripCheck, guardCheck, recordCheck, prepareChecks, rollbackChecks}
 use Rattle.rules.specs.Publication.{Stage, rolledBack}

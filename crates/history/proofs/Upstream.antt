@@ -19,7 +19,7 @@ use Rattle.rules.specs.Checks.{Call, changesOf, prepareChecks, rollbackChecks, 
 use Rattle.rules.specs.Publication.{Stage, rolledBack}
 use Rattle.rules.specs.Calls.{Outcome, asBefore, decided, shown, written, prepared, prepareOf, rollbackOf, removalOf}
 use Rattle.laws.specs.Words.{isRefusal, added, takenAway, RemovedOnly, Stable, isUnchanged}
-use Rattle.laws.proofs.Tests.{clash}
+use Rattle.booleans.proofs.Tests.{clash}
 use Rattle.laws.proofs.Flat.{postings-laid-out}
 use Rattle.laws.proofs.Answers.{Kind, kind, refusal-unchanged, unchanged-accepts-not}
 use Rattle.laws.proofs.Steps.{removed-only-same}

@@ -6,13 +6,14 @@ use mathlib.Core.List.{List, [], reverse}
 use mathlib.Core.Bool.{Bool, true, not, _&&_, _||_}
 use mathlib.Core.Logic.{_⊎_}
 use lib.ListN.{length}
+use Rattle.strips.specs.Strips.{byteAt}
 use Rattle.rules.specs.declared.Posting.{Posting}
 use Rattle.rules.specs.declared.Head.{Head}
 use Rattle.rules.specs.declared.Answer.{Answer}
 use Rattle.rules.specs.declared.Verdict.{Verdict}
 use Rattle.rules.specs.Postings.{present, ascending, counted}
 use Rattle.rules.specs.Table.{capacity, postings, laidOut}
-use Rattle.rules.specs.Orders.{Numbered, byteAt, destinations, sources, postingsOf, numbersOf, recorded}
+use Rattle.rules.specs.Orders.{Numbered, destinations, sources, postingsOf, numbersOf, recorded}
 use Rattle.rules.specs.Checks.{Call, changesOf, prepareChecks, rollbackChecks, removalChecks, publishChecks, countChecks}
 use Rattle.rules.specs.Calls.{Outcome, written}
 use Rattle.laws.specs.Words.{numberAt, Quiet, Noisy}

@@ -8,7 +8,7 @@ use Rattle.rules.specs.declared.Answer.{Answer}
 use Rattle.rules.specs.declared.Told.{Told}
 use Rattle.rules.specs.Answers.{toldOf, isAccepted, poisons}
 use Rattle.laws.specs.Words.{isRefusal, isUnchanged}
-use Rattle.laws.proofs.Tests.{clash}
+use Rattle.booleans.proofs.Tests.{clash}
 
 -- the answer back from its numbers
 answerOf : Told → Answer

@@ -16,7 +16,7 @@ use Rattle.rules.specs.Checks.{Call, prepareChecks, rollbackChecks, removalChec
 use Rattle.rules.specs.Publication.{Stage, rolledBack, thenSources}
 use Rattle.rules.specs.Calls.{Outcome, asBefore, decided, headAfter, shown, prepared, prepareOf, rollbackOf, removalOf, publishOf, countOf}
 use Rattle.laws.specs.Words.{isUnchanged, Stable, AsBefore, StaysWellFormed, RefusesPoisoned}
-use Rattle.laws.proofs.Tests.{by-cases, clash}
+use Rattle.booleans.proofs.Tests.{by-cases, clash}
 use Rattle.laws.proofs.Flat.{well-formed-parts, Sound, sound-postings, well-formed-laid-out, length-laid-out}
 use Rattle.laws.proofs.Undo.{undo-sound}
 use Rattle.laws.proofs.Prepare.{prepare-sound}

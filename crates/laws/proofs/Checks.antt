@@ -7,6 +7,7 @@ use mathlib.Core.Bool.{Bool, true, false, not, _&&_, _||_, or-assoc}
 use lib.ListN.{length}
 use lib.Dec.{eqb, ltb, leb}
 use borrow.Author.Tests.{ne-eqb, eqb-true, leb-true, not-true}
+use Rattle.strips.specs.Strips.{properStrip}
 use Rattle.rules.specs.declared.Posting.{Posting}
 use Rattle.rules.specs.declared.Key.{Key}
 use Rattle.rules.specs.declared.Change.{Change}
@@ -16,10 +17,10 @@ use Rattle.rules.specs.declared.Answer.{Answer}
 use Rattle.rules.specs.declared.Verdict.{Verdict}
 use Rattle.rules.specs.Postings.{every, same, present, inserted, within}
 use Rattle.rules.specs.Table.{postings, wellFormed}
-use Rattle.rules.specs.Orders.{Numbered, named, destinationOf, destinationsFrom, destinations, sources, postingsOf, properLists, properStrip}
+use Rattle.rules.specs.Orders.{Numbered, named, destinationOf, destinationsFrom, destinations, sources, postingsOf, properLists}
 use Rattle.rules.specs.Checks.{Call, changesOf, must, orElse, firstRefusal, tableCheck, poisonCheck, listCheck, stripCheck, roomCheck, heldKey, guarded, firstFailing, guardCheck, recordable, among, recordFrom, recordCheck, equalTo, twiceFrom, twiceCheck, presentCheck, overlapCheck, prepareChecks, rollbackChecks, removalChecks, publishChecks}
 use Rattle.laws.specs.Words.{isRefusal}
-use Rattle.laws.proofs.Tests.{and-left, both, neither}
+use Rattle.booleans.proofs.Tests.{and-left, both, neither}
 use Rattle.laws.proofs.Ranks.{same-turned}
 use Rattle.laws.proofs.Lists.{present-inserted, or-swap}
 use Rattle.laws.proofs.Prepare.{Fresh}

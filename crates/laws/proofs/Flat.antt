@@ -14,7 +14,7 @@ use Rattle.rules.specs.declared.Head.{Head}
 use Rattle.rules.specs.Limits.{mostNumbers, mostBindings}
 use Rattle.rules.specs.Postings.{every, ascending, within}
 use Rattle.rules.specs.Table.{cells, capacity, postings, numbers, laidOut, allOf, limitsHold, wellFormed}
-use Rattle.laws.proofs.Tests.{and-left, and-right, both}
+use Rattle.booleans.proofs.Tests.{and-left, and-right, both}
 
 pub length-numbers : (ps : List Posting) → length (numbers ps) ≡ length ps * 3
 unfolding numbers

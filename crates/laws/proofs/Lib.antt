@@ -1,5 +1,4 @@
--- What follows from the rules, from tests and lists up to whole calls.
-pub mod Tests
+-- What follows from the rules, from lists up to whole calls.
 pub mod Left
 pub mod Ranks
 pub mod Lists

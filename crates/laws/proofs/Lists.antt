@@ -8,7 +8,7 @@ use lib.ListN.{length}
 use Rattle.rules.specs.declared.Posting.{Posting}
 use Rattle.rules.specs.declared.Order.{Order}
 use Rattle.rules.specs.Postings.{compared, isSame, same, present, placed, inserted, removed}
-use Rattle.laws.proofs.Tests.{clash, or-left, or-right, by-cases}
+use Rattle.booleans.proofs.Tests.{clash, or-left, or-right, by-cases}
 use Rattle.laws.proofs.Ranks.{compared-same, same-equal, same-self}
 
 or-twice : (a b : Bool) → (a || b) ≡ (a || (a || b))

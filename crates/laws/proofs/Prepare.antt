@@ -9,14 +9,15 @@ use mathlib.Core.Logic.{_⊎_, inl, inr, ⊎-elim}
 use lib.ListN.{length}
 use lib.Dec.{ltb}
 use borrow.Author.Tests.{ltb-true, ltb-false}
+use Rattle.strips.specs.Strips.{byteAt}
 use Rattle.rules.specs.declared.Posting.{Posting}
 use Rattle.rules.specs.declared.Answer.{Answer}
 use Rattle.rules.specs.declared.Verdict.{Verdict}
 use Rattle.rules.specs.Postings.{every, within, same, present, inserted}
-use Rattle.rules.specs.Orders.{Numbered, byteAt, postingsOf}
+use Rattle.rules.specs.Orders.{Numbered, postingsOf}
 use Rattle.rules.specs.Publication.{undoing, Stage, whyNot, notInserted, preparing}
 use Rattle.laws.specs.Words.{added, numberAt, Quiet, Noisy}
-use Rattle.laws.proofs.Tests.{either, and-left, and-right}
+use Rattle.booleans.proofs.Tests.{either, and-left, and-right}
 use Rattle.laws.proofs.Lists.{or-swap, present-inserted, length-inserted}
 use Rattle.laws.proofs.Flat.{Sound}
 use Rattle.laws.proofs.Steps.{preparing-clear, preparing-full, preparing-store, sound-inserted}

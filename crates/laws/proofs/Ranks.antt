@@ -8,7 +8,7 @@ use borrow.Author.Tests.{lt-ltb, le-ltb, ltb-true, ltb-false}
 use Rattle.rules.specs.declared.Posting.{Posting}
 use Rattle.rules.specs.declared.Order.{Order}
 use Rattle.rules.specs.Postings.{ranked, compared, isBefore, isSame, same}
-use Rattle.laws.proofs.Tests.{equal-tests}
+use Rattle.booleans.proofs.Tests.{equal-tests}
 
 pub data Tri (a b : ℕ) : Type 0 where
   less : a < b → Tri a b

@@ -5,14 +5,15 @@ use mathlib.Core.Path.{_≡_, refl}
 use mathlib.Core.List.{List, [], _∷_}
 use mathlib.Core.Logic.{_⊎_, inl, inr, ⊎-elim}
 use lib.ListN.{length}
+use Rattle.strips.specs.Strips.{byteAt}
 use Rattle.rules.specs.declared.Posting.{Posting}
 use Rattle.rules.specs.declared.Answer.{Answer}
 use Rattle.rules.specs.Postings.{removed}
-use Rattle.rules.specs.Orders.{Numbered, byteAt, postingsOf}
+use Rattle.rules.specs.Orders.{Numbered, postingsOf}
 use Rattle.rules.specs.Storage.{removal}
 use Rattle.rules.specs.Publication.{Stage, removing}
 use Rattle.laws.specs.Words.{takenAway, numberAt, Quiet, RemovedOnly}
-use Rattle.laws.proofs.Tests.{by-cases}
+use Rattle.booleans.proofs.Tests.{by-cases}
 use Rattle.laws.proofs.Flat.{Sound}
 use Rattle.laws.proofs.Steps.{removing-clear, removing-fails, removed-only-then, removed-only-same, sound-removal}
 use Rattle.laws.proofs.Undo.{byte-is, quiet-cons, quiet-none}

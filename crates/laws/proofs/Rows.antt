@@ -12,7 +12,7 @@ use Rattle.rules.specs.declared.Order.{Order}
 use Rattle.rules.specs.Postings.{ranked, compared, same, chain, ascending, present, bucket}
 use Rattle.rules.specs.Checks.{among}
 use Rattle.laws.specs.Words.{rising}
-use Rattle.laws.proofs.Tests.{and-left, and-right, both, equal-tests}
+use Rattle.booleans.proofs.Tests.{and-left, and-right, both, equal-tests}
 use Rattle.laws.proofs.Ranks.{Tri, less, equal, more, tri, ranked-equal, ranked-more, same-equal, same-self}
 use Rattle.laws.proofs.Sorted.{chain-before, chain-rest, chain-skip, ascending-rest}
 

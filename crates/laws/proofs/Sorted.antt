@@ -5,7 +5,7 @@ use mathlib.Core.Bool.{Bool, true, false, _&&_, _||_}
 use Rattle.rules.specs.declared.Posting.{Posting}
 use Rattle.rules.specs.declared.Order.{Order}
 use Rattle.rules.specs.Postings.{every, compared, isBefore, isSame, same, chain, ascending, present, placed, inserted, removed}
-use Rattle.laws.proofs.Tests.{clash, and-left, and-right, both, by-cases, neither}
+use Rattle.booleans.proofs.Tests.{clash, and-left, and-right, both, by-cases, neither}
 use Rattle.laws.proofs.Ranks.{compared-same, is-before, after-before, before-before, same-equal, same-self}
 
 pub chain-before : (p q : Posting) (qs : List Posting) → chain p (q ∷ qs) ≡ true → compared p q ≡ Order.Before

@@ -8,16 +8,17 @@ use mathlib.Core.Logic.{_⊎_, inl, inr}
 use lib.ListN.{length}
 use lib.Dec.{eqb}
 use borrow.Author.Tests.{eq-eqb, ne-eqb, lt-ltb, le-ltb}
+use Rattle.strips.specs.Strips.{byteAt}
 use Rattle.rules.specs.declared.Posting.{Posting}
 use Rattle.rules.specs.declared.Fault.{Fault}
 use Rattle.rules.specs.declared.Answer.{Answer}
 use Rattle.rules.specs.declared.Verdict.{Verdict}
 use Rattle.rules.specs.Postings.{within, same, present, inserted, removed}
-use Rattle.rules.specs.Orders.{Numbered, byteAt}
+use Rattle.rules.specs.Orders.{Numbered}
 use Rattle.rules.specs.Storage.{insertion, Removal, removal}
 use Rattle.rules.specs.Publication.{undoing, notInserted, preparing, removing}
 use Rattle.laws.specs.Words.{RemovedOnly}
-use Rattle.laws.proofs.Tests.{by-cases, clash, and-left, or-left, or-right}
+use Rattle.booleans.proofs.Tests.{by-cases, clash, and-left, or-left, or-right}
 use Rattle.laws.proofs.Lists.{present-removed, length-removed, length-inserted-most}
 use Rattle.laws.proofs.Sorted.{ascending-inserted, ascending-removed, every-inserted, every-removed}
 use Rattle.laws.proofs.Flat.{Sound}

@@ -9,15 +9,16 @@ use mathlib.Core.Logic.{_⊎_, inl, inr, ⊎-elim}
 use lib.ListN.{length}
 use lib.Dec.{eqb, ltb}
 use borrow.Author.Tests.{eqb-true, eqb-false, ltb-true, ltb-false}
+use Rattle.strips.specs.Strips.{byteAt}
 use Rattle.rules.specs.declared.Posting.{Posting}
 use Rattle.rules.specs.declared.Answer.{Answer}
 use Rattle.rules.specs.declared.Verdict.{Verdict}
 use Rattle.rules.specs.Postings.{same, present, inserted, removed}
-use Rattle.rules.specs.Orders.{Numbered, byteAt, postingsOf}
+use Rattle.rules.specs.Orders.{Numbered, postingsOf}
 use Rattle.rules.specs.Storage.{removal}
 use Rattle.rules.specs.Publication.{Undone, undoing}
 use Rattle.laws.specs.Words.{takenAway, numberAt, Quiet, Noisy, RemovedOnly}
-use Rattle.laws.proofs.Tests.{neither}
+use Rattle.booleans.proofs.Tests.{neither}
 use Rattle.laws.proofs.Lists.{removed-inserted, present-inserted, differs}
 use Rattle.laws.proofs.Flat.{Sound}
 use Rattle.laws.proofs.Steps.{undoing-clear, undoing-fails, removed-only-then, removed-only-same, sound-removal}

@@ -6,12 +6,13 @@ use mathlib.Core.List.{List, [], _∷_}
 use mathlib.Core.Bool.{Bool, true, false, cond, _&&_, _||_}
 use lib.ListN.{length, getD}
 use lib.Dec.{eqb, leb}
+use Rattle.strips.specs.Strips.{byteAt}
 use Rattle.rules.specs.declared.Posting.{Posting}
 use Rattle.rules.specs.declared.Head.{Head}
 use Rattle.rules.specs.declared.Answer.{Answer}
 use Rattle.rules.specs.Answers.{toldOf, poisons}
 use Rattle.rules.specs.Postings.{present, inserted, removed}
-use Rattle.rules.specs.Orders.{Numbered, byteAt}
+use Rattle.rules.specs.Orders.{Numbered}
 use Rattle.rules.specs.Table.{wellFormed}
 use Rattle.rules.specs.Checks.{Call}
 use Rattle.rules.specs.Calls.{Outcome, asBefore}

@@ -16,7 +16,7 @@ use Rattle.rules.specs.Orders.{Numbered, numbersOf}
 use Rattle.rules.specs.Answers.{isAccepted, poisons, settled}
 use Rattle.rules.specs.Publication.{Undone, Stage, removing, rolledBack, thenSources}
 use Rattle.rules.specs.Calls.{headWith, shown, written, recordAfter}
-use Rattle.laws.proofs.Tests.{by-cases}
+use Rattle.booleans.proofs.Tests.{by-cases}
 use Rattle.laws.proofs.Flat.{well-formed-parts}
 use Rattle.table.specs.Holding.{Carries}
 use Rattle.table.proofs.Keeping.{carries-postings}

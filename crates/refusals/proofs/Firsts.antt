@@ -15,7 +15,7 @@ use Rattle.rules.specs.Postings.{every}
 use Rattle.rules.specs.Table.{wellFormed}
 use Rattle.rules.specs.Orders.{changes, guards, properChanges, properLists, destinationOf, noChange}
 use Rattle.rules.specs.Checks.{must, orElse, firstRefusal, tableCheck, poisonCheck, listCheck, stripCheck, roomCheck, guardCheck, isNamed, recordable, among, recordFrom, recordCheck, twiceCheck, presentCheck, overlapCheck, prepareChecks, rollbackChecks, removalChecks, publishChecks, countChecks}
-use Rattle.laws.proofs.Tests.{and-left, and-right, both}
+use Rattle.booleans.proofs.Tests.{and-left, and-right, both}
 use Rattle.laws.proofs.Checks.{must-holds, first-passes, else-first, else-second}
 use Rattle.refusals.specs.Lending.{lending}
 

@@ -35,7 +35,7 @@ fn of_lists(list: &[u32], pairs: &[u32], strip: &[u8]) -> Verdict
         ∷ []) ⌝ }
 {
     if checks::proper_lists(list, pairs) {
-        if checks::proper_strip(strip) {
+        if strips::proper_strip(strip) {
             return Verdict::Passes;
         }
         return Verdict::Refused(Answer::Strip);

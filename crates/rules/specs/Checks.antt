@@ -4,6 +4,7 @@ use mathlib.Core.List.{List, [], _∷_, _++_}
 use mathlib.Core.Bool.{Bool, true, false, not, _&&_, _||_}
 use lib.ListN.{length, getD}
 use lib.Dec.{eqb, ltb, leb}
+use Rattle.strips.specs.Strips.{properStrip}
 use Rattle.rules.specs.declared.Key.{Key}
 use Rattle.rules.specs.declared.Change.{Change}
 use Rattle.rules.specs.declared.Guard.{Guard}
@@ -12,7 +13,7 @@ use Rattle.rules.specs.declared.Answer.{Answer}
 use Rattle.rules.specs.declared.Verdict.{Verdict}
 use Rattle.rules.specs.Postings.{same, present}
 use Rattle.rules.specs.Table.{postings, wellFormed}
-use Rattle.rules.specs.Orders.{changes, guards, held, properLists, properStrip, Numbered, destinationOf, destinations, sources, postingsOf, noChange}
+use Rattle.rules.specs.Orders.{changes, guards, held, properLists, Numbered, destinationOf, destinations, sources, postingsOf, noChange}
 
 -- what a call lends beside table and head; the record list is written by prepare and publish and read by rollback
 pub record Call : Type 0 where

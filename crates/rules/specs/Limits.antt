@@ -1,4 +1,4 @@
--- The limits of lent lists and numbers, each one number. A list at its limit is accepted.
+-- The limits of lent lists and numbers, each one number; a strip's is in `strips`. A list at its limit is accepted.
 use Prim.Native.Nat.{ℕ}
 
 -- numbers of a table, three to a posting
@@ -16,7 +16,3 @@ mostChanges = 256
 -- guards, two numbers to each
 abbrev pub mostGuards : ℕ
 mostGuards = 1024
-
--- bytes of a strip
-abbrev pub mostBytes : ℕ
-mostBytes = 1024

@@ -1,4 +1,4 @@
--- What an order lends: a change list, guards and a strip; and the destinations and sources that the changes name.
+-- What an order lends beside a strip: a change list and guards; and the destinations and sources that the changes name.
 use Prim.Native.Nat.{ℕ, _+_, _%_}
 use mathlib.Core.List.{List, [], _∷_, map}
 use mathlib.Core.Bool.{Bool, true, false, cond, _&&_, _||_}
@@ -8,8 +8,7 @@ use Rattle.rules.specs.declared.Posting.{Posting}
 use Rattle.rules.specs.declared.Key.{Key}
 use Rattle.rules.specs.declared.Change.{Change}
 use Rattle.rules.specs.declared.Guard.{Guard}
-use Rattle.rules.specs.Limits.{mostChanges, mostGuards, mostBytes}
-use Rattle.rules.specs.Postings.{every}
+use Rattle.rules.specs.Limits.{mostChanges, mostGuards}
 
 -- a flag and a key: with flag 0 there is none
 abbrev pub keyOf : ℕ → ℕ → Key
@@ -56,14 +55,6 @@ properLists cs gs =
 unfoldable pub held : ℕ → ℕ → List Guard → Bool
 held binding key [] = false
 held binding key (g ∷ gs) = (eqb binding (g .binding) && eqb key (g .key)) || held binding key gs
-
--- not over its limit, and no byte above 2
-unfoldable pub properStrip : List ℕ → Bool
-properStrip strip = leb (length strip) mostBytes && every (λ byte. leb byte 2) strip
-
--- the next byte where so many are read; past the end reads 0
-abbrev pub byteAt : List ℕ → ℕ → ℕ
-byteAt strip read = getD strip read 0
 
 -- where a change brings its row
 abbrev pub destinationOf : Change → Key

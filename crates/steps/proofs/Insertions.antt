@@ -5,6 +5,7 @@ use native.Mathlib.Numerals.{add-one}
 use mathlib.Core.Path.{_≡_, refl, sym, ap, _∙_}
 use mathlib.Core.List.{List, [], _∷_}
 use lib.ListN.{length, drop, getD}
+use Rattle.strips.specs.Strips.{byteAt}
 use Rattle.rules.specs.declared.Change.{Change}
 use Rattle.rules.specs.declared.Fault.{Fault}
 use Rattle.rules.specs.declared.Key.{Key}
@@ -12,7 +13,7 @@ use Rattle.rules.specs.declared.Posting.{Posting}
 use Rattle.rules.specs.declared.Answer.{Answer}
 use Rattle.rules.specs.declared.Verdict.{Verdict}
 use Rattle.rules.specs.Table.{capacity, postings}
-use Rattle.rules.specs.Orders.{Numbered, byteAt, named, destinationOf, destinationsFrom, noChange}
+use Rattle.rules.specs.Orders.{Numbered, named, destinationOf, destinationsFrom, noChange}
 use Rattle.rules.specs.Storage.{insertion}
 use Rattle.rules.specs.Publication.{Undone, Stage, undoing, notInserted, byFault, preparing}
 use Rattle.changes.proofs.Walk.{destinations-left, destinations-none}

@@ -5,12 +5,13 @@ use mathlib.Core.Path.{_≡_, refl, sym, ap, _∙_}
 use mathlib.Core.List.{List, _∷_}
 use mathlib.Core.Bool.{Bool, true, false, cond}
 use lib.ListN.{length, drop, getD}
+use Rattle.strips.specs.Strips.{byteAt}
 use Rattle.rules.specs.declared.Change.{Change}
 use Rattle.rules.specs.declared.Key.{Key}
 use Rattle.rules.specs.declared.Posting.{Posting}
 use Rattle.rules.specs.declared.Answer.{Answer}
 use Rattle.rules.specs.Table.{postings}
-use Rattle.rules.specs.Orders.{Numbered, byteAt, named, sourceOf, sourcesFrom, noChange}
+use Rattle.rules.specs.Orders.{Numbered, named, sourceOf, sourcesFrom, noChange}
 use Rattle.rules.specs.Storage.{removal}
 use Rattle.rules.specs.Publication.{removing}
 use Rattle.changes.proofs.Walk.{sources-left, sources-none}

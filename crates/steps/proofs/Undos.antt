@@ -7,17 +7,18 @@ use mathlib.Core.Bool.{Bool, true, cond}
 use lib.ListN.{length, getD}
 use lib.Dec.{ltb}
 use borrow.Author.Tests.{ltb-true}
+use Rattle.strips.specs.Strips.{byteAt}
 use Rattle.rules.specs.declared.Change.{Change}
 use Rattle.rules.specs.declared.Key.{Key}
 use Rattle.rules.specs.declared.Posting.{Posting}
 use Rattle.rules.specs.declared.Answer.{Answer}
 use Rattle.rules.specs.declared.Verdict.{Verdict}
 use Rattle.rules.specs.Table.{postings}
-use Rattle.rules.specs.Orders.{Numbered, byteAt, named, destinationOf, noChange, recorded}
+use Rattle.rules.specs.Orders.{Numbered, named, destinationOf, noChange, recorded}
 use Rattle.rules.specs.Storage.{removal}
 use Rattle.rules.specs.Postings.{every}
 use Rattle.rules.specs.Publication.{Undone, undoing, whyNot, notInserted}
-use Rattle.laws.proofs.Tests.{and-left, and-right}
+use Rattle.booleans.proofs.Tests.{and-left, and-right}
 use Rattle.table.specs.Holding.{Ordered}
 use Rattle.table.proofs.Keeping.{carries-postings, carries-ordered}
 use Rattle.steps.specs.declared.Removed.{Removed}

@@ -10,6 +10,7 @@ use rules::Fault;
 use rules::Key;
 use rules::Posting;
 use rules::Verdict;
+use strips::byte_at;
 ghost use Prim.Native.Nat.{_+_, _*_, _^_, _<_, _≤_};
 ghost use mathlib.Core.Path.{_≡_};
 ghost use mathlib.Core.Bool.{true};
@@ -20,7 +21,7 @@ ghost use Rattle.rules.specs.declared.Verdict.{Verdict};
 ghost use Rattle.rules.specs.Limits.{mostChanges};
 ghost use Rattle.rules.specs.Postings.{every};
 ghost use Rattle.rules.specs.Table.{capacity, postings};
-ghost use Rattle.rules.specs.Orders.{byteAt, changes, destinations, sources, numbersOf, recorded, noChange};
+ghost use Rattle.rules.specs.Orders.{changes, destinations, sources, numbersOf, recorded, noChange};
 ghost use Rattle.rules.specs.Storage.{insertion, removal};
 ghost use Rattle.rules.specs.Publication.{undoing, notInserted, preparing, removing};
 ghost use Rattle.rules.specs.Calls.{written};
@@ -51,16 +52,6 @@ pub struct Reached {
     pub answer: Answer,
     pub used: usize,
     pub read: usize,
-}
-
-// The next byte where so many are read; past the end reads 0.
-fn byte_at(strip: &[u8], read: usize) -> u8
-    ensures { λ r. ⌜ r ≡ byteAt (now (strip .entry)) read ⌝ }
-{
-    if read < strip.len() {
-        return strip[read];
-    }
-    0
 }
 
 // Byte 0 inserts, or fails full where there is no room; byte 1 or 2 fails unchanged.

@@ -10,7 +10,7 @@ use lib.ListN.{length, take, drop}
 use Rattle.rules.specs.declared.Posting.{Posting}
 use Rattle.rules.specs.declared.Order.{Order}
 use Rattle.rules.specs.Postings.{compared, isBefore, isSame, same, chain, ascending, present, placed, inserted, removed}
-use Rattle.laws.proofs.Tests.{clash}
+use Rattle.booleans.proofs.Tests.{clash}
 use Rattle.laws.proofs.Ranks.{compared-self, compared-same, after-before, before-after, before-before, same-self}
 use Rattle.laws.proofs.Lists.{removed-absent}
 use Rattle.laws.proofs.Sorted.{chain-before, chain-rest, chain-cons, ascending-rest, absent-before}

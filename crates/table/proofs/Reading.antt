@@ -13,7 +13,7 @@ use Rattle.rules.specs.declared.Posting.{Posting}
 use Rattle.rules.specs.declared.Order.{Order}
 use Rattle.rules.specs.Postings.{every, ranked, compared, isBefore, chain, ascending, bucket, within}
 use Rattle.rules.specs.Table.{cells, postings}
-use Rattle.laws.proofs.Tests.{and-left, and-right, both, equal-tests}
+use Rattle.booleans.proofs.Tests.{and-left, and-right, both, equal-tests}
 use Rattle.laws.proofs.Left.{item-left, every-left, every-none}
 use Rattle.laws.proofs.Ranks.{Tri, less, equal, more, tri, ranked-more}
 use Rattle.laws.proofs.Sorted.{chain-before, chain-rest}

@@ -1,0 +1,2 @@
+-- What every law may need to know of a test.
+pub mod Tests

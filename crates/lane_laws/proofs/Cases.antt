@@ -1,0 +1,44 @@
+-- Cases on what a compare or a pass says, and how the answers are told apart.
+use Prim.Native.Nat.{ℕ}
+use native.Mathlib.Omega.{arith}
+use mathlib.Core.Path.{_≡_, refl, ap}
+use Rattle.lane_rules.specs.declared.Said.{Said}
+use Rattle.lane_rules.specs.declared.Answer.{Answer}
+use Rattle.lane_rules.specs.Answers.{toldOf}
+use Rattle.lane_rules.specs.Passes.{bySaid}
+
+-- what holds in all three cases holds of the choice
+pub by-said :
+    {A : Type 0} (P : A → Type 0) (s : Said) {x y z : A} → (s ≡ Said.Yes → P x) → (s ≡ Said.No → P y) → (s ≡ Said.Error → P z) →
+    P (bySaid s x y z)
+by-said P Said.Yes f g h = f refl
+by-said P Said.No f g h = g refl
+by-said P Said.Error f g h = h refl
+
+-- two choices that differ only in what comes of a no are equal where that is equal
+pub same-choice :
+    {A : Type 0} (P : A → Type 0) (s : Said) (x y y′ z : A) → (P y → y′ ≡ y) → P (bySaid s x y z) →
+    bySaid s x y′ z ≡ bySaid s x y z
+same-choice P Said.Yes x y y′ z f h = refl
+same-choice P Said.No x y y′ z f h = f h
+same-choice P Said.Error x y y′ z f h = refl
+
+-- a yes is not a no
+pub yes-not-no : Said.Yes ≡ Said.No → ⊥
+yes-not-no e = let z : _≡_ {A = ℕ} 0 1 = cc in omega arith
+
+-- a no is not a yes
+pub no-not-yes : Said.No ≡ Said.Yes → ⊥
+no-not-yes e = let z : _≡_ {A = ℕ} 0 1 = cc in omega arith
+
+-- an error is not a yes
+pub error-not-yes : Said.Error ≡ Said.Yes → ⊥
+error-not-yes e = let z : _≡_ {A = ℕ} 0 1 = cc in omega arith
+
+-- an error is not a no
+pub error-not-no : Said.Error ≡ Said.No → ⊥
+error-not-no e = let z : _≡_ {A = ℕ} 0 1 = cc in omega arith
+
+-- answers with different numbers are different
+pub other-number : {a b : Answer} → a ≡ b → (toldOf a .answer ≡ toldOf b .answer → ⊥) → ⊥
+other-number e f = f (ap (λ (a : Answer). toldOf a .answer) e)

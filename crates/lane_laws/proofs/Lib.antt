@@ -1,0 +1,11 @@
+-- Theorems about the lane rules, each file resting on those before it.
+pub mod Answers
+pub mod Cases
+pub mod Reading
+pub mod Entry
+pub mod Frames
+pub mod Sweep
+pub mod Exactly
+pub mod Live
+pub mod Slow
+pub mod Upstream

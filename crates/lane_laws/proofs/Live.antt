@@ -1,0 +1,221 @@
+-- Two rounds more than half the strip's bytes are enough, and a detach that meets no storage error then ends retired. Each round
+-- that says no reads at least two bytes: its refresh's, and that of a lane that it tries. So at most half as many rounds as the
+-- strip has bytes try a lane inside it. Past its end every byte is 0: there one round clears all lanes, and the next says yes.
+use Prim.Native.Nat.{ℕ, zero, suc, _+_, _-_, _/_, _≤_, _<_}
+use native.Mathlib.Omega.{arith}
+use mathlib.Core.Path.{_≡_, refl, ap}
+use mathlib.Core.List.{List}
+use mathlib.Core.Bool.{Bool, true, false}
+use lib.ListN.{length}
+use lib.Dec.{leb}
+use borrow.Author.Tests.{leb-true, leb-false}
+use Rattle.booleans.proofs.Tests.{clash}
+use Rattle.lane_rules.specs.declared.View.{View}
+use Rattle.lane_rules.specs.declared.Ended.{Ended}
+use Rattle.lane_rules.specs.declared.Answer.{Answer}
+use Rattle.lane_rules.specs.declared.Verdict.{Verdict}
+use Rattle.lane_rules.specs.Answers.{toldOf, isAccepted}
+use Rattle.lane_rules.specs.Passes.{cachedPass}
+use Rattle.lane_rules.specs.Rounds.{round, rounds, detaching}
+use Rattle.lane_rules.specs.Calls.{detachChecks, ended, unlessRefused, detachOf}
+use Rattle.lane_laws.specs.Clauses.{AllBelow, isRefusal}
+use Rattle.lane_laws.specs.Ends.{detachWork, Ends, yes, error, spent, NoErrors, MetNoError, HadRounds, Retired}
+use Rattle.lane_laws.proofs.Cases.{by-said, same-choice, other-number}
+use Rattle.lane_laws.proofs.Reading.{round-no-reads}
+use Rattle.lane_laws.proofs.Entry.{detach-passes}
+use Rattle.lane_laws.proofs.Frames.{below-inside, cached-leaves, round-leaves}
+use Rattle.lane_laws.proofs.Sweep.{round-no, last-round}
+use Rattle.lane_laws.proofs.Exactly.{detach-refused, detach-ends, accepted-retired, offset-fault, budget-lent}
+
+-- an answer with another number is not 25
+had-rounds : (a : Answer) → (toldOf a .answer ≡ 25 → ⊥) → HadRounds a
+had-rounds a f n e = other-number e f
+
+-- 0 is not
+pub accepted-had-rounds : (a : Answer) → isAccepted a ≡ true → HadRounds a
+accepted-had-rounds a h n e = clash false (rw e at h) refl
+
+-- nor is what a check refuses with
+refused-had-rounds : (a : Answer) → isRefusal a ≡ true → HadRounds a
+refused-had-rounds a h n e = clash false (rw e at h) refl
+
+module _ (strip : List ℕ) (height : ℕ) where
+  -- with no lane left, past the strip's end, the next round is the last
+  last-rounds :
+      (left made window read : ℕ) → length strip ≤ read → HadRounds (rounds strip height (suc left) made 0 window read .answer)
+  unfolding rounds
+  last-rounds left made window read past =
+      rw (last-round strip height window read past) (had-rounds (Answer.Accepted (made + 1)) (omega arith))
+
+  -- after a round that said no: its compares lay past the strip's end, and no lane is left; or the strip had two bytes for it
+  after-no :
+      (left made attached window from read : ℕ) → from + 2 ≤ read → (length strip ≤ from + 1 → attached ≡ 0) →
+      (from + 2 ≤ length strip → HadRounds (rounds strip height (suc left) made attached window read .answer)) →
+      HadRounds (rounds strip height (suc left) made attached window read .answer)
+  after-no left made attached window from read on none more = go (leb (length strip) (from + 1)) refl
+    where
+      go :
+          (b : Bool) → leb (length strip) (from + 1) ≡ b →
+          HadRounds (rounds strip height (suc left) made attached window read .answer)
+      go true e =
+          let past = leb-true (length strip) (from + 1) e in
+          rw (none past) (last-rounds left made window read (omega arith))
+      go false e = let inside = leb-false (length strip) (from + 1) e in more (omega arith)
+
+  -- so two rounds more than half of the bytes still to be read are enough
+  rounds-enough :
+      (left made attached window read : ℕ) → AllBelow attached height → (length strip - read) / 2 + 2 ≤ left →
+      HadRounds (rounds strip height left made attached window read .answer)
+  unfolding rounds
+  rounds-enough zero made attached window read h k = absurd (omega arith)
+  rounds-enough (suc zero) made attached window read h k = absurd (omega arith)
+  rounds-enough (suc (suc left)) made attached window read h k =
+      let r = round strip height attached window read in
+      let below = below-inside height attached (r .attached) (round-leaves strip height attached window read .inside) h in
+      by-said (λ (e : Ended). HadRounds (e .answer)) (r .said)
+      (λ s. had-rounds (Answer.Accepted (made + 1)) (omega arith))
+      (λ s.
+      let on = round-no-reads strip height attached window read s in
+      after-no left (made + 1) (r .attached) (r .window) read (r .read) on
+      (λ past. round-no strip height attached window read past h s)
+      (λ inside. rounds-enough (suc left) (made + 1) (r .attached) (r .window) (r .read) below (omega arith)))
+      (λ s. had-rounds (Answer.Offset (made + 1)) (omega arith))
+
+  -- rounds that were enough end alike with more lent
+  rounds-more :
+      (left more made attached window read : ℕ) → left ≤ more →
+      HadRounds (rounds strip height left made attached window read .answer) →
+      rounds strip height more made attached window read ≡ rounds strip height left made attached window read
+  unfolding rounds
+  rounds-more zero more made attached window read k h = absurd (h made refl)
+  rounds-more (suc left) zero made attached window read k h = absurd (omega arith)
+  rounds-more (suc left) (suc more) made attached window read k h =
+      let r = round strip height attached window read in
+      same-choice (λ (e : Ended). HadRounds (e .answer)) (r .said) _ _ _ _
+      (rounds-more left more (made + 1) (r .attached) (r .window) (r .read) (omega arith))
+      h
+
+  -- the same of the cached pass and the rounds behind it: enough
+  detaching-enough :
+      (lent attached window : ℕ) → AllBelow attached height → length strip / 2 + 2 ≤ lent →
+      HadRounds (detaching strip height lent attached window .answer)
+  unfolding detaching
+  detaching-enough lent attached window h k =
+      let p = cachedPass strip height window attached 0 in
+      let below = below-inside height attached (p .attached) (cached-leaves strip window height attached 0 .clears .inside) h in
+      by-said (λ (e : Ended). HadRounds (e .answer)) (p .said)
+      (λ s. had-rounds (Answer.Accepted 0) (omega arith))
+      (λ s. rounds-enough lent 0 (p .attached) window (p .read) below (omega arith))
+      (λ s. had-rounds (Answer.Offset 0) (omega arith))
+
+  -- and alike with more
+  detaching-more :
+      (lent more attached window : ℕ) → lent ≤ more → HadRounds (detaching strip height lent attached window .answer) →
+      detaching strip height more attached window ≡ detaching strip height lent attached window
+  unfolding detaching
+  detaching-more lent more attached window k h =
+      let p = cachedPass strip height window attached 0 in
+      same-choice (λ (e : Ended). HadRounds (e .answer)) (p .said) _ _ _ _
+      (rounds-more lent more 0 (p .attached) window (p .read) k)
+      h
+
+module _ {strip : List ℕ} {lent from attached read : ℕ} where
+  -- an end that is neither 24 nor 25 is a yes
+  must-accept : {a : Answer} → Ends strip lent from attached read a → MetNoError a → HadRounds a → isAccepted a ≡ true
+  must-accept (yes n k e c) f g = refl
+  must-accept (error n k e) f g = absurd (f n refl)
+  must-accept (spent c) f g = absurd (g lent refl)
+
+  -- an end tells no more rounds than were lent
+  value-of : {a : Answer} → Ends strip lent from attached read a → toldOf a .value ≤ lent
+  value-of (yes n k e c) = k
+  value-of (error n k e) = k
+  value-of (spent c) = omega arith
+
+module _ (v : View) (strip : List ℕ) where
+  -- with two rounds more than half its strip's bytes, no detach ends for want of rounds
+  pub rounds-suffice : (lent : ℕ) → length strip / 2 + 2 ≤ lent → HadRounds (detachOf v strip lent .answer)
+  unfolding detachOf
+  rounds-suffice lent k = go (detachChecks v strip) refl
+    where
+      go : (c : Verdict) → detachChecks v strip ≡ c → HadRounds (detachOf v strip lent .answer)
+      go Verdict.Passes h =
+          rw h (detaching-enough strip (v .height) lent (v .attached) (v .window) (detach-passes v strip .0 h .0 .below) k)
+      go (Verdict.Refused a) h = rw h (refused-had-rounds a (detach-refused v strip lent a h .number))
+
+  -- where the rounds lent were enough, lending more changes nothing
+  pub more-rounds : (n m : ℕ) → n ≤ m → HadRounds (detachOf v strip n .answer) → detachOf v strip m ≡ detachOf v strip n
+  unfolding detachOf
+  more-rounds n m k = go (detachChecks v strip)
+    where
+      go :
+          (c : Verdict) → HadRounds (unlessRefused c v (ended v (detachWork v strip n)) .answer) →
+          unlessRefused c v (ended v (detachWork v strip m)) ≡ unlessRefused c v (ended v (detachWork v strip n))
+      go Verdict.Passes h = ap (ended v) (detaching-more strip (v .height) n m (v .attached) (v .window) k h)
+      go (Verdict.Refused a) h = refl
+
+  -- so from two more than half its strip's bytes on, it makes no difference how many are lent
+  pub bound-rounds : (lent : ℕ) → length strip / 2 + 2 ≤ lent → detachOf v strip lent ≡ detachOf v strip (length strip / 2 + 2)
+  bound-rounds lent k = more-rounds (length strip / 2 + 2) lent k (rounds-suffice (length strip / 2 + 2) (omega arith))
+
+  -- a detach not refused at entry that meets no storage error, with two rounds more than half its strip's bytes, ends retired
+  pub detach-live :
+      (lent : ℕ) → detachChecks v strip ≡ Verdict.Passes → length strip / 2 + 2 ≤ lent →
+      MetNoError (detachOf v strip lent .answer) → Retired (detachOf v strip lent)
+  detach-live lent h k f =
+      accepted-retired v strip lent h (must-accept (detach-ends v strip lent h) f (rounds-suffice lent k))
+
+  -- the customer's demand: with two rounds more than its strip has bytes
+  pub detach-retires :
+      (lent : ℕ) → detachChecks v strip ≡ Verdict.Passes → length strip + 2 ≤ lent →
+      MetNoError (detachOf v strip lent .answer) → Retired (detachOf v strip lent)
+  detach-retires lent h k f = detach-live lent h (omega arith) f
+
+  -- where the strip has no error byte, it always ends retired
+  pub no-errors-retire :
+      (lent : ℕ) → detachChecks v strip ≡ Verdict.Passes → length strip / 2 + 2 ≤ lent → NoErrors strip →
+      Retired (detachOf v strip lent)
+  no-errors-retire lent h k f =
+      detach-live lent h k λ n e.
+      let high = offset-fault v strip lent h n e .last in
+      let low = f (detachWork v strip lent .read - 1) in
+      omega arith
+
+  -- no answer tells more rounds than were lent
+  pub told-rounds : (lent : ℕ) → toldOf (detachOf v strip lent .answer) .value ≤ lent
+  told-rounds lent = go (detachChecks v strip) refl
+    where
+      go : (c : Verdict) → detachChecks v strip ≡ c → toldOf (detachOf v strip lent .answer) .value ≤ lent
+      go Verdict.Passes h = value-of (detach-ends v strip lent h)
+      go (Verdict.Refused a) h =
+          let r = detach-refused v strip lent a h in
+          let none = r .value in
+          rw (r .same) (omega arith)
+
+  -- nor more than two over half the strip's bytes, however many are lent
+  pub few-rounds : (lent : ℕ) → toldOf (detachOf v strip lent .answer) .value ≤ length strip / 2 + 2
+  few-rounds lent = go (leb (length strip / 2 + 2) lent) refl
+    where
+      go :
+          (b : Bool) → leb (length strip / 2 + 2) lent ≡ b →
+          toldOf (detachOf v strip lent .answer) .value ≤ length strip / 2 + 2
+      go true e = rw (bound-rounds lent (leb-true (length strip / 2 + 2) lent e)) (told-rounds (length strip / 2 + 2))
+      go false e =
+          let few = leb-false (length strip / 2 + 2) lent e in
+          let told = told-rounds lent in
+          omega arith
+
+  -- 25 tells exactly the rounds lent, and they were fewer than that
+  pub out-of-rounds :
+      (lent n : ℕ) → detachOf v strip lent .answer ≡ Answer.Budget n → (n ≡ lent) × (lent < length strip / 2 + 2)
+  out-of-rounds lent n e = (all (detachChecks v strip) refl, fewer (leb (length strip / 2 + 2) lent) refl)
+    where
+      all : (c : Verdict) → detachChecks v strip ≡ c → n ≡ lent
+      all Verdict.Passes h = budget-lent v strip lent h n e
+      all (Verdict.Refused a) h =
+          let r = detach-refused v strip lent a h in
+          absurd (refused-had-rounds a (r .number) n (rw (r .same) at e))
+
+      fewer : (b : Bool) → leb (length strip / 2 + 2) lent ≡ b → lent < length strip / 2 + 2
+      fewer true t = absurd (rounds-suffice lent (leb-true (length strip / 2 + 2) lent t) n e)
+      fewer false t = leb-false (length strip / 2 + 2) lent t

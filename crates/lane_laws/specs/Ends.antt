@@ -1,0 +1,80 @@
+-- The words in which the laws say how a pass and a detach end.
+use Prim.Native.Nat.{ℕ, _-_, _≤_, _<_}
+use mathlib.Core.Path.{_≡_}
+use mathlib.Core.List.{List}
+use mathlib.Core.Bool.{true}
+use Rattle.strips.specs.Strips.{byteAt}
+use Rattle.lane_rules.specs.declared.View.{View}
+use Rattle.lane_rules.specs.declared.Said.{Said}
+use Rattle.lane_rules.specs.declared.Pass.{Pass}
+use Rattle.lane_rules.specs.declared.Ended.{Ended}
+use Rattle.lane_rules.specs.declared.Answer.{Answer}
+use Rattle.lane_rules.specs.declared.Done.{Done}
+use Rattle.lane_rules.specs.Answers.{toldOf, isAccepted}
+use Rattle.lane_rules.specs.Passes.{cachedPass, refreshedPass}
+use Rattle.lane_rules.specs.Rounds.{detaching}
+use Rattle.lane_laws.specs.Clauses.{isRefusal}
+
+-- what a cached pass does past its checks
+abbrev pub cachedWork : View → List ℕ → Pass
+cachedWork v strip = cachedPass strip (v .height) (v .window) (v .attached) 0
+
+-- what a refreshed pass does past its checks
+abbrev pub refreshedWork : View → List ℕ → Pass
+refreshedWork v strip = refreshedPass strip (v .height) (v .window) (v .attached) 0
+
+-- what a detach does past its checks
+abbrev pub detachWork : View → List ℕ → ℕ → Ended
+detachWork v strip lent = detaching strip (v .height) lent (v .attached) (v .window)
+
+-- no byte of the strip is an error
+abbrev pub NoErrors : List ℕ → Type 0
+NoErrors strip = (i : ℕ) → byteAt strip i ≤ 1
+
+-- no byte from one place of the strip up to another is an error
+abbrev pub Clean : List ℕ → ℕ → ℕ → Type 0
+Clean strip from to = (i : ℕ) → from ≤ i → i < to → byteAt strip i ≤ 1
+
+-- of the bytes from one place up to another the last is an error, and no other
+pub record Fault (strip : List ℕ) (from to : ℕ) : Type 0 where
+  pub some : from < to
+  pub before : Clean strip from (to - 1)
+  pub last : 1 < byteAt strip (to - 1)
+
+-- an error is said exactly where the last byte read was one
+abbrev pub Heard : List ℕ → ℕ → ℕ → Said → Type 0
+Heard strip from to Said.Yes = Clean strip from to
+Heard strip from to Said.No = Clean strip from to
+Heard strip from to Said.Error = Fault strip from to
+
+-- a refusal tells its number and the value 0, and changes nothing
+pub record RefusedWith (a : Answer) (v : View) (o : Done) : Type 0 where
+  pub number : isRefusal a ≡ true
+  pub value : toldOf a .value ≡ 0
+  pub same : o ≡ record { answer = a; view = v }
+
+-- a pass ends with a yes and no lane attached, with a no, or at an error byte
+pub data PassEnds (strip : List ℕ) (attached read : ℕ) : Answer → Type 0 where
+  said-yes : attached ≡ 0 → Clean strip 0 read → PassEnds strip attached read (Answer.Accepted 1)
+  said-no : Clean strip 0 read → PassEnds strip attached read (Answer.Accepted 0)
+  said-error : Fault strip 0 read → PassEnds strip attached read (Answer.Offset 0)
+
+-- at most `lent` rounds, from byte `from` on, end with a yes and no lane attached, or at an error byte, or when all are used up
+pub data Ends (strip : List ℕ) (lent from attached read : ℕ) : Answer → Type 0 where
+  yes : (n : ℕ) → n ≤ lent → attached ≡ 0 → Clean strip from read → Ends strip lent from attached read (Answer.Accepted n)
+  error : (n : ℕ) → n ≤ lent → Fault strip from read → Ends strip lent from attached read (Answer.Offset n)
+  spent : Clean strip from read → Ends strip lent from attached read (Answer.Budget lent)
+
+-- not 24: it met no storage error
+abbrev pub MetNoError : Answer → Type 0
+MetNoError a = (n : ℕ) → a ≡ Answer.Offset n → ⊥
+
+-- not 25: its rounds were enough
+abbrev pub HadRounds : Answer → Type 0
+HadRounds a = (n : ℕ) → a ≡ Answer.Budget n → ⊥
+
+-- the node is retired, and no lane leads to it
+pub record Retired (o : Done) : Type 0 where
+  pub accepted : isAccepted (o .answer) ≡ true
+  pub retired : o .view .retired ≡ 1
+  pub detached : o .view .attached ≡ 0

@@ -1,0 +1,4 @@
+-- The words of each claim about the lane rules.
+pub mod Clauses
+pub mod Ends
+pub mod Slow

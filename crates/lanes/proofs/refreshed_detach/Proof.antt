@@ -1,0 +1,39 @@
+-- The refusal, or else the pass.
+use mathlib.Core.Path.{sym, _∙_}
+use Rattle.lanes.proofs.Calling.{refreshed-refused, refreshed-passed}
+use borrow.Author.Needs.{needs}
+use Rattle.lanes.proofs.refreshed_detach.Statement.{statement}
+use Rattle.lanes.proofs.refreshed_detach.Tie as tie
+
+refreshed-checks-requires : tie.Need-refreshed-checks-requires
+refreshed-checks-requires c κs = search needs
+
+enum-known-answer : tie.Need-enum-known-answer
+enum-known-answer c = search needs
+
+enum-told : tie.Need-enum-told
+enum-told c = search needs
+
+refreshed-pass-requires : tie.Need-refreshed-pass-requires
+refreshed-pass-requires c κs = search needs
+
+after-pass-requires : tie.Need-after-pass-requires
+after-pass-requires c κs = search needs
+
+returns : tie.Need-returns
+returns c = refreshed-refused _ _ _ (sym (c .before .before .before .refreshed-checks .ensures) ∙ c .before .answer .given .1)
+
+returns-2 : tie.Need-returns-2
+returns-2 c = refreshed-passed _ _ (c .after-pass .result) (c .before .refreshed-pass .result) (sym (c .before .before .before .before .refreshed-checks .ensures) ∙ c .before .before .enum-told .given .1) (c .after-pass .ensures) (c .before .refreshed-pass .ensures)
+
+pub refreshed-detach-spec : {M : Type 1} → statement M
+refreshed-detach-spec =
+    tie.close
+    (tie.spec
+    refreshed-checks-requires
+    enum-known-answer
+    enum-told
+    refreshed-pass-requires
+    after-pass-requires
+    returns
+    returns-2)

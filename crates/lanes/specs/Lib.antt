@@ -1,0 +1,2 @@
+-- The promises of the lane calls.
+pub mod Promises

@@ -1,0 +1,3 @@
+-- What a mask is.
+pub mod Masks
+pub mod Examples

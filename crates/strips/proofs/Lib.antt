@@ -1,0 +1,2 @@
+-- The laws of the walk over a strip.
+pub mod Walk

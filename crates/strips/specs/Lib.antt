@@ -1,0 +1,2 @@
+-- What a strip is.
+pub mod Strips
