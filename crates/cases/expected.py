@@ -7,80 +7,16 @@ plainest way, so that this file can be held against the rules by eye.
 """
 
 import sys
-from collections import Counter
+from pathlib import Path
 
-LARGEST = 4294967295
-LISTS = {"head": 3, "ask": 2, "changes": 1600, "guards": 2100, "strip": 1100, "record": 300, "table": 12300}
+sys.dont_write_bytecode = True
+sys.path.insert(0, str(Path(__file__).resolve().parent.parent / "case_text"))
+from case_text import Form, listed, main
+
+FORMS = {"head": Form(3, fixed=True), "ask": Form(2, fixed=True), "changes": Form(1600), "guards": Form(2100),
+         "strip": Form(1100, largest=255), "record": Form(300), "table": Form(12300)}
 CALLS = ["prepare", "rollback", "removal", "publish", "count"]
 
-
-# The input.
-
-class Malformed(Exception):
-    """A line that says nothing the program knows."""
-
-
-def number(text):
-    if not text or any(letter not in "0123456789" for letter in text) or int(text) > LARGEST:
-        raise Malformed
-    return int(text)
-
-
-def once(group, turn):
-    """The numbers of a group in its turn: a number marked + is more by one at each turn."""
-    numbers = []
-    for word in group.split(" "):
-        if word == "":
-            continue
-        step = turn if word.endswith("+") else 0
-        value = number(word[:-1] if word.endswith("+") else word) + step
-        if value > LARGEST:
-            raise Malformed
-        numbers.append(value)
-    return numbers
-
-
-def items(text):
-    """The text's items as (times, group): `7` is 1 time 7, `3*7` 3 times 7, `3*(7 8+)` 3 times a group."""
-    found = []
-    while text.strip(" "):
-        text = text.lstrip(" ")
-        star = text.find("*")
-        space = text.find(" ")
-        if star < 0 or 0 <= space < star:
-            word, _, text = text.partition(" ")
-            found.append((1, word))
-            continue
-        times, text = number(text[:star]), text[star + 1:]
-        if text.startswith("("):
-            if ")" not in text:
-                raise Malformed
-            group, _, text = text[1:].partition(")")
-            if text and not text.startswith(" "):
-                raise Malformed
-        else:
-            group, _, text = text.partition(" ")
-        found.append((times, group))
-    return found
-
-
-def numbers_of(name, text):
-    numbers = []
-    for times, group in items(text):
-        if not group[:1].isdigit():
-            raise Malformed
-        for turn in range(times):
-            numbers += once(group, turn)
-            if len(numbers) > LISTS[name]:
-                raise Malformed
-    if name in ("head", "ask") and len(numbers) != LISTS[name]:
-        raise Malformed
-    if name == "strip" and any(value > 255 for value in numbers):
-        raise Malformed
-    return numbers
-
-
-# The rules.
 
 class Refused(Exception):
     """A check that applies: its number, and what it names."""
@@ -286,70 +222,16 @@ class Case:
         return answer, (named,)
 
 
-# The output.
-
-def listed(numbers):
-    """A list as text: equal neighbours as n*v; a long list by its length, its sum and the sum of the sums so far."""
-    if not numbers:
-        return "none"
-    if len(numbers) > 64:
-        total = sums = 0
-        for value in numbers:
-            total += value
-            sums += total
-        return f"{len(numbers)} numbers, sum {total}, sums {sums}"
-    words, at = [], 0
-    while at < len(numbers):
-        end = at
-        while end < len(numbers) and numbers[end] == numbers[at]:
-            end += 1
-        words.append(str(numbers[at]) if end - at == 1 else f"{end - at}*{numbers[at]}")
-        at = end
-    return " ".join(words)
-
-
-def told(call, name, lists, census):
+def run(call, lists):
+    """The answer, and what is written of the case."""
     case = Case(lists)
     answer, named = case.run(call)
-    census[call, answer] += 1
-    line = f"{call}{name}: answer {answer} names {' '.join(map(str, named))}"
+    told = f"answer {answer} names {' '.join(map(str, named))}"
     if call != "count":
-        line += f"; head {case.bindings} {case.used} {case.flag}; table {listed(case.table)}"
+        told += f"; head {case.bindings} {case.used} {case.flag}; table {listed(case.table)}"
     if call in ("prepare", "publish"):
-        line += f"; record {listed(case.record)}"
-    return line
+        told += f"; record {listed(case.record)}"
+    return answer, told
 
 
-def output(text, census):
-    lists = {"head": [0, 0, 0], "ask": [0, 0], "table": [], "changes": [], "guards": [], "strip": [], "record": []}
-    lines = text.split("\n")
-    if lines[-1] == "":
-        lines.pop()
-    for line in lines:
-        word, _, rest = line.partition(" ")
-        if line == "" or line.startswith("#"):
-            continue
-        if word in CALLS:
-            yield told(word, line[len(word):], lists, census)
-            continue
-        try:
-            if word not in LISTS:
-                raise Malformed
-            lists[word] = [0] * LISTS[word] if word in ("head", "ask") else []
-            lists[word] = numbers_of(word, rest)
-        except Malformed:
-            yield f"malformed: {line}"
-
-
-def main():
-    census = Counter()
-    lines = list(output(sys.stdin.read(), census))
-    if "--census" not in sys.argv[1:]:
-        sys.stdout.write("".join(line + "\n" for line in lines))
-        return
-    for (call, answer), cases in sorted(census.items(), key=lambda entry: (CALLS.index(entry[0][0]), entry[0][1])):
-        print(call, answer, cases)
-    print("in all", sum(census.values()))
-
-
-main()
+main(FORMS, CALLS, run)

@@ -1,22 +1,11 @@
 // Runs the posting calls on the cases that its input lists, and writes a line for each: the call and the case's name, the
 // answer and what it names, and but for a count the head (bindings, used, poison flag) and the table after it; for prepare
-// and publish the record list too.
-//
-// The input is at most 65,536 bytes, a line for each thing said. A line that begins with # is a comment. A line that begins
-// with the name of a list sets that list, which then stands until it is set anew: head (bindings, used, poison flag), table,
-// changes, guards, strip, record, and ask (the binding and key of a count). Its numbers are said one by one, or as `n*v`,
-// n times v, or as `n*(v w+)`, n times a group in which w is more by one each time. A line that begins with the name of a
-// call runs it on copies of the lists; the rest of the line is the case's name. Any other line is said to be malformed, and
-// so is a list that it does not take, which is then empty.
-//
-// Lists are written with n*v for n equal neighbours. Of a list of more than 64 numbers its length is written, the sum of its
-// numbers, and the sum of the sums on the way, which depends on every number and its place.
+// and publish the record list too. What the input may say, and how lists are written, stands in crate `case_text`.
 mod lists;
-mod reading;
-mod writing;
 
-use lists::List;
-use lists::Lists;
+use case_text::reading;
+use case_text::writing;
+use lists::Name;
 use publish::Done;
 use rules::Head;
 
@@ -31,7 +20,7 @@ enum Call {
 
 // What the first word of a line asks for.
 enum Word {
-    Set(List),
+    Set(Name),
     Run(Call),
     Unknown,
 }
@@ -39,19 +28,19 @@ enum Word {
 // The list that a word names, if it names one.
 fn list_named(word: &[u8]) -> Word {
     if reading::same(word, b"head") {
-        Word::Set(List::Head)
+        Word::Set(Name::Head)
     } else if reading::same(word, b"table") {
-        Word::Set(List::Table)
+        Word::Set(Name::Table)
     } else if reading::same(word, b"changes") {
-        Word::Set(List::Changes)
+        Word::Set(Name::Changes)
     } else if reading::same(word, b"guards") {
-        Word::Set(List::Guards)
+        Word::Set(Name::Guards)
     } else if reading::same(word, b"strip") {
-        Word::Set(List::Strip)
+        Word::Set(Name::Strip)
     } else if reading::same(word, b"record") {
-        Word::Set(List::Record)
+        Word::Set(Name::Record)
     } else if reading::same(word, b"ask") {
-        Word::Set(List::Ask)
+        Word::Set(Name::Ask)
     } else {
         Word::Unknown
     }
@@ -114,18 +103,18 @@ fn write_answer(done: Done) {
 }
 
 // The head that the lists say.
-fn head_of(lists: &Lists) -> Head {
+fn head_of(lists: &[u32]) -> Head {
     Head {
-        bindings: lists::number(lists, List::Head, 0),
-        used: lists::number(lists, List::Head, 1),
-        poisoned: lists::number(lists, List::Head, 2),
+        bindings: lists::number(lists, Name::Head, 0),
+        used: lists::number(lists, Name::Head, 1),
+        poisoned: lists::number(lists, Name::Head, 2),
     }
 }
 
 // A count of what the lists ask for, as a call that leaves the head as it was.
-fn counted(lists: &Lists, head: Head, table: &[u32]) -> Done {
-    let binding = lists::number(lists, List::Ask, 0);
-    let key = lists::number(lists, List::Ask, 1);
+fn counted(lists: &[u32], head: Head, table: &[u32]) -> Done {
+    let binding = lists::number(lists, Name::Ask, 0);
+    let key = lists::number(lists, Name::Ask, 1);
     let answer = publish::count(head, table, binding, key);
     Done { head, answer }
 }
@@ -133,19 +122,14 @@ fn counted(lists: &Lists, head: Head, table: &[u32]) -> Done {
 // Runs a call with the head, the changes and the guards of the lists.
 fn run_with(
     call: Call,
-    lists: &Lists,
+    lists: &[u32],
     table: &mut [u32],
     strip: &[u8],
     record: &mut [u32],
 ) -> Done {
     let head = head_of(lists);
-    let all = &lists[..];
-    let changes_from = lists::start(List::Changes) + 1;
-    let changes_to = changes_from + lists::size(lists, List::Changes);
-    let changes = &all[changes_from..changes_to];
-    let guards_from = lists::start(List::Guards) + 1;
-    let guards_to = guards_from + lists::size(lists, List::Guards);
-    let guards = &all[guards_from..guards_to];
+    let changes = lists::numbers(lists, Name::Changes);
+    let guards = lists::numbers(lists, Name::Guards);
     match call {
         Call::Prepare => publish::prepare_index_destinations(
             head,
@@ -170,15 +154,15 @@ fn run_with(
 }
 
 // Runs a call on a table and a record list, with all else from the lists.
-fn run(call: Call, lists: &Lists, table: &mut [u32], record: &mut [u32]) -> Done {
+fn run(call: Call, lists: &[u32], table: &mut [u32], record: &mut [u32]) -> Done {
     let mut strip = [0u8; 1100];
-    let size = lists::copy_strip(lists, &mut strip);
+    let size = case_text::lists::copy_bytes(lists::numbers(lists, Name::Strip), &mut strip);
     let all = &strip[..];
     run_with(call, lists, table, &all[0..size], record)
 }
 
 // Runs a case on a table and a record list, and writes what comes of it.
-fn run_on(call: Call, lists: &Lists, table: &mut [u32], record: &mut [u32]) {
+fn run_on(call: Call, lists: &[u32], table: &mut [u32], record: &mut [u32]) {
     let done = run(call, lists, table, record);
     write_answer(done);
     write_state(call, done.head, table);
@@ -187,51 +171,43 @@ fn run_on(call: Call, lists: &Lists, table: &mut [u32], record: &mut [u32]) {
 }
 
 // Runs a case on a table and a copy of the record list.
-fn run_recorded(call: Call, lists: &Lists, table: &mut [u32]) {
+fn run_recorded(call: Call, lists: &[u32], table: &mut [u32]) {
     let mut record = [0u32; 300];
-    let size = lists::copy(lists, List::Record, &mut record);
+    let size = case_text::lists::copy(lists::numbers(lists, Name::Record), &mut record);
     let all = &mut record[..];
     run_on(call, lists, table, &mut all[0..size]);
 }
 
 // Runs a case on copies of the lists, so that the next one finds them as they were set.
-fn run_case(call: Call, lists: &Lists) {
+fn run_case(call: Call, lists: &[u32]) {
     let mut table = [0u32; 12300];
-    let size = lists::copy(lists, List::Table, &mut table);
+    let size = case_text::lists::copy(lists::numbers(lists, Name::Table), &mut table);
     let all = &mut table[..];
     run_recorded(call, lists, &mut all[0..size]);
 }
 
-// Says of a line that it is malformed.
-fn write_malformed(line: &[u8]) {
-    io::write_all(1, b"malformed: ");
-    io::write_all(1, line);
-    io::write_all(1, b"\n");
-}
-
 // Does what one line says.
-fn run_line(line: &[u8], lists: &mut Lists) {
-    if line.len() == 0 || reading::stands(line, 0, b'#') {
+fn run_line(line: &[u8], lists: &mut [u32]) {
+    if reading::is_silent(line) {
         return;
     }
-    let end = reading::find(line, 0, b' ');
-    let asked = named(&line[0..end]);
+    let asked = named(reading::first_word(line));
     match asked {
-        Word::Set(list) => {
-            if !reading::set(&line[end..], lists, list) {
-                write_malformed(line);
+        Word::Set(name) => {
+            if !reading::set(line, lists, lists::list_of(name)) {
+                writing::write_malformed(line);
             }
         }
         Word::Run(call) => {
             io::write_all(1, line);
             run_case(call, lists);
         }
-        Word::Unknown => write_malformed(line),
+        Word::Unknown => writing::write_malformed(line),
     }
 }
 
 // Does what each line of the input says, up the lines.
-fn run_lines(text: &[u8], lists: &mut Lists) {
+fn run_lines(text: &[u8], lists: &mut [u32]) {
     let mut at = 0;
     while at < text.len() {
         let end = reading::find(text, at, b'\n');

@@ -1,12 +1,13 @@
 -- `run_lines` stays in its text, and each line takes it further.
 use Prim.Native.Nat.{_-_}
 use lib.ListN.{length}
+use mathlib.Core.Path.{_≡_}
 use borrow.Author.Needs.{needs}
 use Rattle.cases.proofs.run_lines.Statement.{statement}
 use Rattle.cases.proofs.run_lines.Tie as tie
 
 abbrev Inv-loop : tie.InvT-loop
-Inv-loop text lists₀ at₀ lists at = Unit {0}
+Inv-loop text lists₀ at₀ lists at = length lists ≡ length lists₀
 
 abbrev μ-loop : tie.MeasureT-loop
 μ-loop text lists₀ at₀ lists at = length text - at
@@ -38,6 +39,9 @@ loop-less c = search needs
 loop-again : tie.Need-loop-again Inv-loop μ-loop
 loop-again c = search needs
 
+same-length : tie.Need-same-length Inv-loop μ-loop
+same-length c = search needs
+
 returns : tie.Need-returns Inv-loop μ-loop
 returns c = search needs
 
@@ -56,4 +60,5 @@ run-lines-spec =
     add-at
     loop-less
     loop-again
+    same-length
     returns)

@@ -1,0 +1,52 @@
+-- `add_turn` goes on in its group or stops.
+use Prim.Native.Nat.{_-_}
+use lib.ListN.{length}
+use mathlib.Core.Path.{_≡_}
+use borrow.Author.Needs.{needs}
+use Rattle.case_text.proofs.reading.add_turn.Statement.{statement}
+use Rattle.case_text.proofs.reading.add_turn.Tie as tie
+
+abbrev Inv-loop : tie.InvT-loop
+Inv-loop group turn lists₀ list at₀ lists at = length lists ≡ length lists₀
+
+abbrev μ-loop : tie.MeasureT-loop
+μ-loop group turn lists₀ list at₀ lists at = length group - at
+
+loop-holds : tie.Need-loop-holds Inv-loop μ-loop
+loop-holds c = search needs
+
+add-number-requires : tie.Need-add-number-requires Inv-loop μ-loop
+add-number-requires c κs = search needs
+
+same-length : tie.Need-same-length Inv-loop μ-loop
+same-length c = search needs
+
+returns : tie.Need-returns Inv-loop μ-loop
+returns c = search needs
+
+loop-less : tie.Need-loop-less Inv-loop μ-loop
+loop-less c = search needs
+
+loop-again : tie.Need-loop-again Inv-loop μ-loop
+loop-again c = search needs
+
+same-length-2 : tie.Need-same-length-2 Inv-loop μ-loop
+same-length-2 c = search needs
+
+returns-2 : tie.Need-returns-2 Inv-loop μ-loop
+returns-2 c = search needs
+
+pub add-turn-spec : {M : Type 1} → statement M
+add-turn-spec =
+    tie.close
+    (tie.spec
+    Inv-loop
+    μ-loop
+    loop-holds
+    add-number-requires
+    same-length
+    returns
+    loop-less
+    loop-again
+    same-length-2
+    returns-2)

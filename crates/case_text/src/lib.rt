@@ -1,0 +1,15 @@
+// What the programs that run cases share: the text that says the cases, the lists that it sets, and the writing of numbers.
+//
+// The text is at most 65,536 bytes, a line for each thing said. A line that begins with # is a comment. A line that begins
+// with the name of a list sets that list, which then stands until it is set anew. Its numbers are said one by one, or as
+// `n*v`, n times v, or as `n*(v w+)`, n times a group in which w is more by one each time. A line that begins with the name
+// of a call runs it on copies of the lists; the rest of the line is the case's name. Any other line is said to be malformed,
+// and so is a list that the program does not take, which is then empty.
+//
+// Lists are written with n*v for n equal neighbours. Of a list of more than 64 numbers its length is written, the sum of its
+// numbers, and the sum of the sums on the way, which depends on every number and its place.
+//
+// Each program says its own lists and calls, and goes through the lines.
+pub mod lists;
+pub mod reading;
+pub mod writing;
