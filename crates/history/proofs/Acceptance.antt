@@ -5,7 +5,7 @@ use native.Mathlib.Nat.{zero-add}
 use native.Mathlib.Omega.{arith}
 use mathlib.Core.Path.{_≡_, refl, ap, sym, _∙_}
 use mathlib.Core.List.{List, []}
-use mathlib.Core.Bool.{true, false, not}
+use mathlib.Core.Bool.{true, false}
 use mathlib.Core.Logic.{_↔_, _⊎_, inl, inr, ⊎-elim}
 use lib.ListN.{length}
 use Rattle.strips.specs.Strips.{byteAt}
@@ -14,7 +14,7 @@ use Rattle.rules.specs.declared.Answer.{Answer}
 use Rattle.rules.specs.declared.Verdict.{Verdict}
 use Rattle.rules.specs.Postings.{counted, ascending}
 use Rattle.rules.specs.Table.{postings, capacity, laidOut}
-use Rattle.rules.specs.Orders.{Numbered, destinations, sources}
+use Rattle.rules.specs.Orders.{Numbered}
 use Rattle.rules.specs.Answers.{settled, isAccepted}
 use Rattle.rules.specs.Checks.{countChecks, Call, prepareChecks, rollbackChecks, removalChecks, publishChecks}
 use Rattle.rules.specs.Calls.{countOf, Outcome, prepared, prepareOf, rollbackOf, removalOf, publishOf}

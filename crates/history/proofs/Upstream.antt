@@ -11,7 +11,7 @@ use Rattle.rules.specs.declared.Change.{Change}
 use Rattle.rules.specs.declared.Head.{Head}
 use Rattle.rules.specs.declared.Answer.{Answer}
 use Rattle.rules.specs.declared.Verdict.{Verdict}
-use Rattle.rules.specs.Postings.{every, present}
+use Rattle.rules.specs.Postings.{present}
 use Rattle.rules.specs.Table.{capacity, postings, laidOut}
 use Rattle.rules.specs.Orders.{Numbered, destinations, sources, postingsOf, numbersOf, recorded}
 use Rattle.rules.specs.Answers.{isAccepted, poisons}

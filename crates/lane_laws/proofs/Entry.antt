@@ -7,8 +7,8 @@ use mathlib.Core.Bool.{Bool, true, false, not, _||_}
 use mathlib.Core.Logic.{_↔_, ⊎-elim}
 use lib.Dec.{eqb}
 use borrow.Author.Tests.{eq-eqb, ne-eqb, eqb-true, eqb-false, le-ltb, ltb-false, not-true, not-false}
-use Rattle.booleans.proofs.Tests.{by-cases, either, clash, or-left, or-right}
 use Rattle.strips.specs.Strips.{properStrip}
+use Rattle.booleans.proofs.Tests.{by-cases, either, clash, or-left, or-right}
 use Rattle.masks.specs.Masks.{mostLanes}
 use Rattle.masks.proofs.Lanes.{below-lanes, lanes-below, within-lane, Inside, inside-within}
 use Rattle.lane_rules.specs.declared.View.{View}

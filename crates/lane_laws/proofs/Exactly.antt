@@ -7,8 +7,8 @@ use mathlib.Core.Bool.{Bool, true, false, cond}
 use mathlib.Core.Logic.{_↔_}
 use lib.Dec.{eqb, ltb}
 use borrow.Author.Tests.{eqb-true, eqb-false, ltb-true, ltb-false}
-use Rattle.booleans.proofs.Tests.{by-cases, clash}
 use Rattle.strips.specs.Strips.{byteAt}
+use Rattle.booleans.proofs.Tests.{by-cases, clash}
 use Rattle.masks.specs.Masks.{laneIn}
 use Rattle.lane_rules.specs.declared.View.{View}
 use Rattle.lane_rules.specs.declared.Said.{Said}

@@ -7,8 +7,8 @@ use mathlib.Core.Bool.{true, false}
 use mathlib.Core.Logic.{⊎-elim}
 use lib.Dec.{eqb}
 use borrow.Author.Tests.{eqb-true, eqb-false}
-use Rattle.booleans.proofs.Tests.{by-cases, either, clash}
 use Rattle.strips.specs.Strips.{byteAt}
+use Rattle.booleans.proofs.Tests.{by-cases, either, clash}
 use Rattle.masks.specs.Masks.{laneIn, lowestCleared}
 use Rattle.masks.proofs.Lanes.{cleared-same, cleared-other, no-lanes, below-bound, lanes-below}
 use Rattle.masks.proofs.Lanes.{Inside, inside-same, inside-then, inside-cleared, inside-lowest}

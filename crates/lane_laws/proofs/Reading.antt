@@ -4,8 +4,8 @@ use native.Mathlib.Omega.{arith}
 use mathlib.Core.Path.{_≡_, refl, sym, _∙_}
 use mathlib.Core.List.{List}
 use mathlib.Core.Bool.{cond}
-use Rattle.booleans.proofs.Tests.{by-cases}
 use Rattle.strips.specs.Strips.{byteAt}
+use Rattle.booleans.proofs.Tests.{by-cases}
 use Rattle.masks.specs.Masks.{laneIn}
 use Rattle.lane_rules.specs.declared.Said.{Said}
 use Rattle.lane_rules.specs.declared.Compared.{Compared}

@@ -8,8 +8,8 @@ use mathlib.Core.Bool.{Bool, true, false}
 use lib.ListN.{length}
 use lib.Dec.{leb}
 use borrow.Author.Tests.{le-leb, leb-true, leb-false}
-use Rattle.booleans.proofs.Tests.{clash}
 use Rattle.strips.specs.Strips.{mostBytes, properBytes, properStrip, byteAt}
+use Rattle.booleans.proofs.Tests.{clash}
 use Rattle.masks.specs.Masks.{digit, laneIn, cleared, lanesBelow}
 use Rattle.lane_rules.specs.declared.Said.{Said}
 use Rattle.lane_rules.specs.declared.Answer.{Answer}

@@ -5,8 +5,8 @@ use mathlib.Core.Path.{_≡_, refl, ap}
 use mathlib.Core.List.{List}
 use mathlib.Core.Bool.{false}
 use lib.ListN.{length, List·getD-eq-default}
-use Rattle.booleans.proofs.Tests.{by-cases}
 use Rattle.strips.specs.Strips.{byteAt}
+use Rattle.booleans.proofs.Tests.{by-cases}
 use Rattle.masks.specs.Masks.{laneIn}
 use Rattle.masks.proofs.Lanes.{cleared-same, no-lane, Inside, inside-then}
 use Rattle.lane_rules.specs.declared.Said.{Said}

@@ -9,7 +9,6 @@ use Rattle.lane_rules.specs.declared.Ended.{Ended}
 use Rattle.lane_rules.specs.declared.Done.{Done}
 use Rattle.lane_rules.specs.declared.Pass.{Pass}
 use Rattle.lane_rules.specs.declared.View.{View}
-use Rattle.lane_rules.specs.declared.Said.{Said}
 use Rattle.lane_rules.specs.declared.Answer.{Answer}
 use Rattle.lane_rules.specs.declared.Verdict.{Verdict}
 use Rattle.lane_rules.specs.Answers.{isAccepted}

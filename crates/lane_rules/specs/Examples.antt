@@ -2,10 +2,9 @@
 -- their count, the order of the checks, and the limits.
 use Prim.Native.Nat.{ℕ, _-_, _^_}
 use mathlib.Core.Path.{_≡_, refl}
-use mathlib.Core.List.{List, [], _∷_, map, _++_}
+use mathlib.Core.List.{List, [], _∷_, map}
 use lib.ListN.{replicate}
 use Rattle.lane_rules.specs.declared.View.{View}
-use Rattle.lane_rules.specs.declared.Answer.{Answer}
 use Rattle.lane_rules.specs.declared.Done.{Done}
 use Rattle.lane_rules.specs.Answers.{toldOf}
 use Rattle.lane_rules.specs.Calls.{cachedOf, refreshedOf, detachOf}
@@ -44,8 +43,8 @@ view height attached window = record { height = height; guarded = 1; retired = 0
 abbrev pub every : ℕ
 every = 2 ^ 32 - 1
 
--- height 3, attached 7, empty strip: a window of 6 needs two rounds, of which the first clears lane 0 and says no; one round gives
--- 25 with attached 0; a window of 7 needs none
+-- height 3, attached 7, empty strip: a window of 6 needs two rounds, of which the first clears lane 0 and says no; one round
+-- gives 25 with attached 0; a window of 7 needs none
 pub worked :
     Hold
     (detachOf (view 3 7 6) [] 2 gives row 0 2 0 0 1

@@ -4,7 +4,6 @@ use mathlib.Core.List.{List}
 use mathlib.Core.Bool.{Bool, true, false, cond}
 use Rattle.strips.specs.Strips.{byteAt}
 use Rattle.masks.specs.Masks.{laneIn}
-use Rattle.lane_rules.specs.declared.Compared.{Compared}
 use Rattle.lane_rules.specs.declared.Pass.{Pass}
 use Rattle.lane_rules.specs.declared.Said.{Said}
 use Rattle.lane_rules.specs.Steps.{compared}

@@ -5,7 +5,6 @@ use mathlib.Core.Bool.{cond}
 use Rattle.strips.specs.Strips.{byteAt}
 use Rattle.lane_rules.specs.declared.Ended.{Ended}
 use Rattle.lane_rules.specs.declared.Pass.{Pass}
-use Rattle.lane_rules.specs.declared.Refreshed.{Refreshed}
 use Rattle.lane_rules.specs.declared.Round.{Round}
 use Rattle.lane_rules.specs.declared.Said.{Said}
 use Rattle.lane_rules.specs.declared.Answer.{Answer}

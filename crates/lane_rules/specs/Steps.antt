@@ -1,6 +1,6 @@
 -- One compare and one refresh, by the next byte of the strip.
 use Prim.Native.Nat.{ℕ}
-use mathlib.Core.Bool.{Bool, true, false, cond}
+use mathlib.Core.Bool.{true, false, cond}
 use lib.Dec.{eqb}
 use Rattle.masks.specs.Masks.{laneIn, cleared, lowestCleared}
 use Rattle.lane_rules.specs.declared.Compared.{Compared}

@@ -1,9 +1,8 @@
 -- The checks at entry, test by test: the first that applies is given.
-use Prim.Native.Nat.{ℕ, _≤_, _<_}
-use native.Mathlib.Omega.{arith}
+use Prim.Native.Nat.{ℕ, _≤_}
 use mathlib.Core.Path.{_≡_}
 use mathlib.Core.List.{List}
-use mathlib.Core.Bool.{Bool, true, false, not}
+use mathlib.Core.Bool.{true, false, not}
 use lib.Dec.{eqb, ltb}
 use borrow.Author.Tests.{eq-eqb, ne-eqb}
 use Rattle.strips.specs.Strips.{properStrip}
@@ -11,8 +10,8 @@ use Rattle.masks.specs.Masks.{mostLanes, lanesBelow, within}
 use Rattle.lane_rules.specs.declared.View.{View}
 use Rattle.lane_rules.specs.declared.Answer.{Answer}
 use Rattle.lane_rules.specs.declared.Verdict.{Verdict}
-use Rattle.lane_laws.proofs.Entry.{detach-passes}
 use Rattle.lane_rules.specs.Calls.{badHeight, badView, badWindow, badStrip, detachChecks, refreshedChecks}
+use Rattle.lane_laws.proofs.Entry.{detach-passes}
 
 module _ (v : View) where
   -- the height is 0, or else it decides

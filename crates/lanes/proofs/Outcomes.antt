@@ -3,9 +3,7 @@ use Prim.Native.Nat.{ℕ}
 use mathlib.Core.Path.{_≡_, sym, ap, _∙_}
 use mathlib.Core.List.{List}
 use Rattle.lane_rules.specs.declared.View.{View}
-use Rattle.lane_rules.specs.declared.Answer.{Answer}
 use Rattle.lane_rules.specs.declared.Done.{Done}
-use Rattle.lane_rules.specs.Calls.{cachedOf, refreshedOf, detachOf}
 use Rattle.lane_laws.proofs.Answers.{told-injective}
 use Rattle.lanes.specs.Promises.{Seen, seen, CachedPromise, RefreshedPromise, DetachPromise}
 

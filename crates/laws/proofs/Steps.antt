@@ -3,7 +3,7 @@ use Prim.Native.Nat.{ℕ, _+_, _≤_, _<_}
 use native.Mathlib.Omega.{arith}
 use mathlib.Core.Path.{_≡_, refl, sym, _∙_}
 use mathlib.Core.List.{List, _∷_}
-use mathlib.Core.Bool.{Bool, true, false, not, _&&_}
+use mathlib.Core.Bool.{true, false, not}
 use mathlib.Core.Logic.{_⊎_, inl, inr}
 use lib.ListN.{length}
 use lib.Dec.{eqb}
@@ -18,7 +18,7 @@ use Rattle.rules.specs.Orders.{Numbered}
 use Rattle.rules.specs.Storage.{insertion, Removal, removal}
 use Rattle.rules.specs.Publication.{undoing, notInserted, preparing, removing}
 use Rattle.laws.specs.Words.{RemovedOnly}
-use Rattle.booleans.proofs.Tests.{by-cases, clash, and-left, or-left, or-right}
+use Rattle.booleans.proofs.Tests.{by-cases, and-left, or-left, or-right}
 use Rattle.laws.proofs.Lists.{present-removed, length-removed, length-inserted-most}
 use Rattle.laws.proofs.Sorted.{ascending-inserted, ascending-removed, every-inserted, every-removed}
 use Rattle.laws.proofs.Flat.{Sound}

@@ -1,20 +1,21 @@
 -- Masks by computation, up to height 32.
-use Prim.Native.Nat.{ℕ}
 use mathlib.Core.Path.{_≡_, refl}
-use mathlib.Core.List.{List, [], _∷_}
-use mathlib.Core.Bool.{Bool, true, false}
+use mathlib.Core.List.{[], _∷_}
+use mathlib.Core.Bool.{true, false}
 use Rattle.masks.specs.Masks.{digit, laneIn, cleared, entered, lanesBelow, withinBelow, within, lowestFrom, lowest, lowestCleared}
 
 -- lane 31 is the highest, and a lane of 32 or more is in no mask
 pub lanes-in :
-    laneIn 6 0 ∷ laneIn 6 1 ∷ laneIn 6 2 ∷ laneIn 6 3 ∷ laneIn 4294967295 31 ∷ laneIn 2147483648 31 ∷ laneIn 2147483647 31 ∷ laneIn 4294967295 32 ∷ []
+    laneIn 6 0 ∷ laneIn 6 1 ∷ laneIn 6 2 ∷ laneIn 6 3
+    ∷ laneIn 4294967295 31 ∷ laneIn 2147483648 31 ∷ laneIn 2147483647 31 ∷ laneIn 4294967295 32 ∷ []
     ≡ false ∷ true ∷ true ∷ false ∷ true ∷ true ∷ false ∷ false ∷ []
 unfolding digit laneIn
 lanes-in = refl
 
 -- a lane that isn't there is cleared with no change, and one that is there is set with none
 pub lanes-changed :
-    cleared 7 1 ∷ cleared 5 1 ∷ cleared 4294967295 31 ∷ cleared 4294967295 32 ∷ entered 5 1 ∷ entered 7 1 ∷ entered 0 31 ∷ entered 5 32 ∷ []
+    cleared 7 1 ∷ cleared 5 1 ∷ cleared 4294967295 31 ∷ cleared 4294967295 32
+    ∷ entered 5 1 ∷ entered 7 1 ∷ entered 0 31 ∷ entered 5 32 ∷ []
     ≡ 5 ∷ 5 ∷ 2147483647 ∷ 4294967295 ∷ 7 ∷ 7 ∷ 2147483648 ∷ 5 ∷ []
 unfolding digit cleared entered
 lanes-changed = refl
@@ -33,7 +34,8 @@ unfolding digit laneIn withinBelow within
 masks-within = refl
 
 pub lowest-lanes :
-    lowest 6 ∷ lowest 2147483648 ∷ lowest 0 ∷ lowestCleared 6 ∷ lowestCleared 2147483648 ∷ lowestCleared 0 ∷ lowestCleared 4294967295 ∷ []
+    lowest 6 ∷ lowest 2147483648 ∷ lowest 0 ∷ lowestCleared 6
+    ∷ lowestCleared 2147483648 ∷ lowestCleared 0 ∷ lowestCleared 4294967295 ∷ []
     ≡ 1 ∷ 31 ∷ 32 ∷ 4 ∷ 0 ∷ 0 ∷ 4294967294 ∷ []
 unfolding digit laneIn cleared lowestFrom lowest lowestCleared
 lowest-lanes = refl

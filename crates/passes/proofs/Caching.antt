@@ -1,14 +1,13 @@
 -- The cached pass, turn by turn: where so many lanes are left, the pass from the start is the pass from here.
 use Prim.Native.Nat.{ℕ, suc, _+_, _-_, _≤_, _<_}
 use native.Mathlib.Omega.{arith}
-use mathlib.Core.Path.{_≡_, refl, sym, ap, _∙_}
+use mathlib.Core.Path.{_≡_, refl, ap, _∙_}
 use mathlib.Core.List.{List}
 use mathlib.Core.Bool.{true, false}
 use Rattle.strips.specs.Strips.{byteAt}
 use Rattle.masks.specs.Masks.{laneIn}
 use Rattle.lane_rules.specs.declared.Said.{Said}
 use Rattle.lane_rules.specs.declared.Compared.{Compared}
-use Rattle.lane_rules.specs.declared.Pass.{Pass}
 use Rattle.lane_rules.specs.Steps.{compared}
 use Rattle.lane_rules.specs.Passes.{bySaid, cachedPass}
 

@@ -6,8 +6,8 @@ use mathlib.Core.List.{List}
 use mathlib.Core.Bool.{true, false, cond}
 use Rattle.lane_rules.specs.declared.Said.{Said}
 use Rattle.lane_rules.specs.declared.Pass.{Pass}
-use Rattle.lane_laws.proofs.Reading.{Reads, try-reads}
 use Rattle.lane_rules.specs.Passes.{failed, tryLane, refreshedFrom, refreshedPass}
+use Rattle.lane_laws.proofs.Reading.{try-reads}
 
 -- so many lanes are left, and so the pass stands; each byte read belongs to a lane that is not left
 pub record Refreshing (strip : List ℕ) (height window attached start : ℕ) (pass : Pass) (lane : ℕ) : Type 0 where

@@ -2,7 +2,7 @@
 -- what the number has fallen by.
 use Prim.Native.Nat.{ℕ, suc, _+_, _-_, _*_, _≤_, _<_}
 use native.Mathlib.Omega.{arith}
-use mathlib.Core.Path.{_≡_, refl, sym, ap, _∙_}
+use mathlib.Core.Path.{_≡_, sym, ap, _∙_}
 use mathlib.Core.List.{List}
 use mathlib.Core.Bool.{true, false}
 use Rattle.strips.specs.Strips.{byteAt}
@@ -12,11 +12,10 @@ use Rattle.lane_rules.specs.declared.Answer.{Answer}
 use Rattle.lane_rules.specs.declared.Refreshed.{Refreshed}
 use Rattle.lane_rules.specs.declared.Pass.{Pass}
 use Rattle.lane_rules.specs.declared.Round.{Round}
-use Rattle.lane_rules.specs.declared.Ended.{Ended}
 use Rattle.lane_rules.specs.Steps.{refreshed}
 use Rattle.lane_rules.specs.Passes.{bySaid, cachedPass, refreshedPass}
 use Rattle.lane_rules.specs.Rounds.{passWith, round, endedBy, rounds, detaching}
-use Rattle.lane_laws.proofs.Reading.{Reads, cached-reads, round-reads}
+use Rattle.lane_laws.proofs.Reading.{cached-reads, round-reads}
 
 -- a round whose refresh failed, and one whose refresh did not
 module _ (strip : List ℕ) (height attached window read : ℕ) (f : Refreshed)

@@ -1,6 +1,6 @@
 -- A compare and a refresh at each byte, and one lane of the refreshed pass, as the code leaves them.
 use Prim.Native.Nat.{ℕ, _+_}
-use mathlib.Core.Path.{_≡_, sym, _∙_}
+use mathlib.Core.Path.{_≡_}
 use mathlib.Core.List.{List}
 use mathlib.Core.Bool.{true, false}
 use borrow.Author.Tests.{eq-eqb, ne-eqb}
@@ -8,7 +8,6 @@ use Rattle.strips.specs.Strips.{byteAt}
 use Rattle.masks.specs.Masks.{laneIn, cleared, lowestCleared}
 use Rattle.lane_rules.specs.declared.Said.{Said}
 use Rattle.lane_rules.specs.declared.Compared.{Compared}
-use Rattle.lane_rules.specs.declared.Refreshed.{Refreshed}
 use Rattle.lane_rules.specs.declared.Pass.{Pass}
 use Rattle.lane_rules.specs.Steps.{compared, refreshed}
 use Rattle.lane_rules.specs.Passes.{bySaid, tryLane}

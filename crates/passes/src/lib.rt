@@ -11,7 +11,7 @@ use masks::clear_lane;
 use masks::clear_lowest;
 use masks::lane_in;
 use strips::byte_at;
-ghost use Prim.Native.Nat.{_+_, _*_, _^_, _≤_, _<_};
+ghost use Prim.Native.Nat.{_+_, _^_, _≤_, _<_};
 ghost use mathlib.Core.Path.{_≡_};
 ghost use Rattle.masks.specs.Masks.{mostLanes};
 ghost use Rattle.lane_rules.specs.declared.Said.{Said};

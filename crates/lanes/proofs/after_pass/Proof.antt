@@ -1,9 +1,8 @@
 -- Answer and view, each as its function says.
 use mathlib.Core.Path.{ap₂}
+use borrow.Author.Needs.{needs}
 use Rattle.lane_rules.specs.declared.View.{View}
 use Rattle.lane_rules.specs.declared.Answer.{Answer}
-use Rattle.lane_rules.specs.declared.Done.{Done}
-use borrow.Author.Needs.{needs}
 use Rattle.lanes.proofs.after_pass.Statement.{statement}
 use Rattle.lanes.proofs.after_pass.Tie as tie
 

@@ -1,6 +1,5 @@
 -- The height is 0, or it is compared with the lanes that there are.
 use Rattle.lanes.proofs.Checking.{height-zero, height-else}
-use borrow.Author.Needs.{needs}
 use Rattle.lanes.proofs.bad_height.Statement.{statement}
 use Rattle.lanes.proofs.bad_height.Tie as tie
 

@@ -1,6 +1,6 @@
 -- Test by test.
-use Rattle.lanes.proofs.Checking.{view-unguarded, view-retired, view-else}
 use borrow.Author.Needs.{needs}
+use Rattle.lanes.proofs.Checking.{view-unguarded, view-retired, view-else}
 use Rattle.lanes.proofs.bad_view.Statement.{statement}
 use Rattle.lanes.proofs.bad_view.Tie as tie
 
@@ -14,7 +14,8 @@ lanes-below-requires : tie.Need-lanes-below-requires
 lanes-below-requires c κs = search needs
 
 returns-3 : tie.Need-returns-3
-returns-3 c = view-else _ (c .before .before .before .before .if1 .left) (c .before .before .if2 .left) (c .before .lanes-below .ensures)
+returns-3 c =
+    view-else _ (c .before .before .before .before .if1 .left) (c .before .before .if2 .left) (c .before .lanes-below .ensures)
 
 pub bad-view-spec : {M : Type 1} → statement M
 bad-view-spec = tie.close (tie.spec returns returns-2 lanes-below-requires returns-3)

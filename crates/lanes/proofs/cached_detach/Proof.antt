@@ -1,7 +1,7 @@
 -- The refusal, or else the pass.
 use mathlib.Core.Path.{sym, _∙_}
-use Rattle.lanes.proofs.Calling.{cached-refused, cached-passed}
 use borrow.Author.Needs.{needs}
+use Rattle.lanes.proofs.Calling.{cached-refused, cached-passed}
 use Rattle.lanes.proofs.cached_detach.Statement.{statement}
 use Rattle.lanes.proofs.cached_detach.Tie as tie
 
@@ -24,7 +24,11 @@ returns : tie.Need-returns
 returns c = cached-refused _ _ _ (sym (c .before .before .before .detach-checks .ensures) ∙ c .before .answer .given .1)
 
 returns-2 : tie.Need-returns-2
-returns-2 c = cached-passed _ _ (c .after-pass .result) (c .before .cached-pass .result) (sym (c .before .before .before .before .detach-checks .ensures) ∙ c .before .before .enum-told .given .1) (c .after-pass .ensures) (c .before .cached-pass .ensures)
+returns-2 c =
+    let at = c .before in
+    let passes = sym (c .before .before .before .before .detach-checks .ensures) ∙ c .before .before .enum-told .given .1 in
+    cached-passed _ _ (c .after-pass .result) (at .cached-pass .result) passes (c .after-pass .ensures)
+    (at .cached-pass .ensures)
 
 pub cached-detach-spec : {M : Type 1} → statement M
 cached-detach-spec =

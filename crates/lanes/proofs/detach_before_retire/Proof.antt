@@ -1,8 +1,8 @@
 -- The refusal, or else the passes and rounds.
 use mathlib.Core.Path.{sym, _∙_}
+use borrow.Author.Needs.{needs}
 use Rattle.lanes.proofs.Checking.{height-most}
 use Rattle.lanes.proofs.Calling.{detach-refused, detach-passed}
-use borrow.Author.Needs.{needs}
 use Rattle.lanes.proofs.detach_before_retire.Statement.{statement}
 use Rattle.lanes.proofs.detach_before_retire.Tie as tie
 
@@ -25,7 +25,10 @@ returns : tie.Need-returns
 returns c = detach-refused _ _ _ _ (sym (c .before .before .before .detach-checks .ensures) ∙ c .before .answer .given .1)
 
 returns-2 : tie.Need-returns-2
-returns-2 c = detach-passed _ _ _ (c .after-detach .result) (c .before .detach .result) (sym (c .before .before .before .before .detach-checks .ensures) ∙ c .before .before .enum-told .given .1) (c .after-detach .ensures) (c .before .detach .ensures)
+returns-2 c =
+    let at = c .before in
+    let passes = sym (c .before .before .before .before .detach-checks .ensures) ∙ c .before .before .enum-told .given .1 in
+    detach-passed _ _ _ (c .after-detach .result) (at .detach .result) passes (c .after-detach .ensures) (at .detach .ensures)
 
 pub detach-before-retire-spec : {M : Type 1} → statement M
 detach-before-retire-spec =

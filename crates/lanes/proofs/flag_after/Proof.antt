@@ -1,8 +1,8 @@
 -- By the number.
 use mathlib.Core.Path.{sym, ap, _∙_}
 use borrow.Author.Tests.{eq-eqb, ne-eqb}
-use Rattle.lane_rules.specs.declared.Told.{Told}
 use borrow.Author.Needs.{needs}
+use Rattle.lane_rules.specs.declared.Told.{Told}
 use Rattle.lanes.proofs.flag_after.Statement.{statement}
 use Rattle.lanes.proofs.flag_after.Tie as tie
 

@@ -1,7 +1,7 @@
 -- The refusal, or else the pass.
 use mathlib.Core.Path.{sym, _∙_}
-use Rattle.lanes.proofs.Calling.{refreshed-refused, refreshed-passed}
 use borrow.Author.Needs.{needs}
+use Rattle.lanes.proofs.Calling.{refreshed-refused, refreshed-passed}
 use Rattle.lanes.proofs.refreshed_detach.Statement.{statement}
 use Rattle.lanes.proofs.refreshed_detach.Tie as tie
 
@@ -24,7 +24,11 @@ returns : tie.Need-returns
 returns c = refreshed-refused _ _ _ (sym (c .before .before .before .refreshed-checks .ensures) ∙ c .before .answer .given .1)
 
 returns-2 : tie.Need-returns-2
-returns-2 c = refreshed-passed _ _ (c .after-pass .result) (c .before .refreshed-pass .result) (sym (c .before .before .before .before .refreshed-checks .ensures) ∙ c .before .before .enum-told .given .1) (c .after-pass .ensures) (c .before .refreshed-pass .ensures)
+returns-2 c =
+    let at = c .before in
+    let passes = sym (c .before .before .before .before .refreshed-checks .ensures) ∙ c .before .before .enum-told .given .1 in
+    refreshed-passed _ _ (c .after-pass .result) (at .refreshed-pass .result) passes (c .after-pass .ensures)
+    (at .refreshed-pass .ensures)
 
 pub refreshed-detach-spec : {M : Type 1} → statement M
 refreshed-detach-spec =

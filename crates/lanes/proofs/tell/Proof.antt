@@ -1,7 +1,7 @@
 -- Each arm is a clause of the definition.
 use mathlib.Core.Path.{sym, ap, _∙_}
-use Rattle.lane_rules.specs.Answers.{toldOf}
 use borrow.Author.Needs.{needs}
+use Rattle.lane_rules.specs.Answers.{toldOf}
 use Rattle.lanes.proofs.tell.Statement.{statement}
 use Rattle.lanes.proofs.tell.Tie as tie
 

@@ -1,7 +1,7 @@
 -- By the byte, and at byte 0 by the lane.
 use mathlib.Core.Path.{sym, _∙_}
-use Rattle.passes.proofs.Steps.{compared-cleared, compared-not-in, compared-one, compared-error}
 use borrow.Author.Needs.{needs}
+use Rattle.passes.proofs.Steps.{compared-cleared, compared-not-in, compared-one, compared-error}
 use Rattle.passes.proofs.compare.Statement.{statement}
 use Rattle.passes.proofs.compare.Tie as tie
 
@@ -12,7 +12,9 @@ clear-lane-requires : tie.Need-clear-lane-requires
 clear-lane-requires c κs = search needs
 
 returns : tie.Need-returns
-returns c = compared-cleared _ _ _ (c .before .before .before .if1 .taken) (sym (c .before .before .lane-in .ensures) ∙ c .before .if2 .taken) (c .clear-lane .ensures)
+returns c =
+    let inside = sym (c .before .before .lane-in .ensures) ∙ c .before .if2 .taken in
+    compared-cleared _ _ _ (c .before .before .before .if1 .taken) inside (c .clear-lane .ensures)
 
 returns-2 : tie.Need-returns-2
 returns-2 c = compared-not-in _ _ _ (c .before .before .if1 .taken) (sym (c .before .lane-in .ensures) ∙ c .if2 .left)

@@ -1,6 +1,6 @@
 -- By the byte.
-use Rattle.passes.proofs.Steps.{refreshed-zero, refreshed-one, refreshed-error}
 use borrow.Author.Needs.{needs}
+use Rattle.passes.proofs.Steps.{refreshed-zero, refreshed-one, refreshed-error}
 use Rattle.passes.proofs.refresh.Statement.{statement}
 use Rattle.passes.proofs.refresh.Tie as tie
 

@@ -1,8 +1,8 @@
 -- A turn for each lane, from the top lane down.
 use native.Mathlib.Omega.{arith}
 use mathlib.Core.Path.{sym, _∙_}
-use Rattle.passes.proofs.Refreshing.{Refreshing, refreshing-start, refreshing-end, refreshing-error, refreshing-next}
 use borrow.Author.Needs.{needs}
+use Rattle.passes.proofs.Refreshing.{Refreshing, refreshing-start, refreshing-end, refreshing-error, refreshing-next}
 use Rattle.passes.proofs.refreshed_pass.Statement.{statement}
 use Rattle.passes.proofs.refreshed_pass.Tie as tie
 
@@ -25,13 +25,20 @@ has-failed-requires : tie.Need-has-failed-requires Inv-loop μ-loop
 has-failed-requires c κs = search needs
 
 returns : tie.Need-returns Inv-loop μ-loop
-returns c = sym (refreshing-error (c .before .before .before .before .loop .inv) (c .before .before .try-lane .result) (c .before .before .before .loop-test .taken) (c .before .before .try-lane .ensures) (sym (c .before .has-failed .ensures) ∙ c .if1 .taken))
+returns c =
+    let at = c .before .before in
+    sym
+    (refreshing-error (at .before .before .loop .inv) (at .try-lane .result) (at .before .loop-test .taken) (at .try-lane .ensures)
+    (sym (c .before .has-failed .ensures) ∙ c .if1 .taken))
 
 loop-less : tie.Need-loop-less Inv-loop μ-loop
 loop-less c = search needs
 
 loop-again : tie.Need-loop-again Inv-loop μ-loop
-loop-again c = refreshing-next (c .before .before .before .before .loop .inv) (c .before .before .try-lane .result) (c .before .before .before .loop-test .taken) (c .before .before .try-lane .ensures) (sym (c .before .has-failed .ensures) ∙ c .if1 .left)
+loop-again c =
+    let at = c .before .before in
+    refreshing-next (at .before .before .loop .inv) (at .try-lane .result) (at .before .loop-test .taken) (at .try-lane .ensures)
+    (sym (c .before .has-failed .ensures) ∙ c .if1 .left)
 
 returns-2 : tie.Need-returns-2 Inv-loop μ-loop
 returns-2 c = sym (refreshing-end (c .before .loop .inv) (omega arith))

@@ -2,9 +2,9 @@
 use Prim.Native.Nat.{ℕ}
 use mathlib.Core.Path.{sym, ap, _∙_}
 use borrow.Author.Tests.{not-true, not-false}
+use borrow.Author.Needs.{needs}
 use Rattle.lane_rules.specs.Steps.{compared}
 use Rattle.passes.proofs.Steps.{try-skipped, try-tried}
-use borrow.Author.Needs.{needs}
 use Rattle.passes.proofs.try_lane.Statement.{statement}
 use Rattle.passes.proofs.try_lane.Tie as tie
 
@@ -27,7 +27,13 @@ add-t11 : tie.Need-add-t11
 add-t11 c = search needs
 
 returns-2 : tie.Need-returns-2
-returns-2 c = try-tried (c .before .before .before .before .before .before .before .args .strip .now) _ _ (c .before .before .before .before .before .before .before .args .so-far) (c .before .before .compare .result) (sym (c .before .before .before .before .before .lane-in .ensures) ∙ not-false _ (c .before .before .before .before .if1 .left)) (c .before .before .compare .ensures ∙ ap (λ (b : ℕ). compared b (c .before .before .before .before .before .before .before .args .lane) (c .before .before .before .before .before .before .before .args .so-far .attached)) (c .before .before .before .byte-at .ensures)) (c .before .after-trying .ensures)
+returns-2 c =
+    let given = c .before .before .before .before .before .before .before .args in
+    let at = c .before .before in
+    let inside = sym (at .before .before .before .lane-in .ensures) ∙ not-false _ (at .before .before .if1 .left) in
+    let byte = ap (λ (b : ℕ). compared b (given .lane) (given .so-far .attached)) (at .before .byte-at .ensures) in
+    try-tried (given .strip .now) _ _ (given .so-far) (at .compare .result) inside (at .compare .ensures ∙ byte)
+    (c .before .after-trying .ensures)
 
 pub try-lane-spec : {M : Type 1} → statement M
 try-lane-spec =
