@@ -9,8 +9,8 @@ use lib.Dec.{eqb}
 use borrow.Author.Tests.{eq-eqb, ne-eqb, eqb-true, eqb-false, le-ltb, ltb-false, not-true, not-false}
 use Rattle.strips.specs.Strips.{properStrip}
 use Rattle.booleans.proofs.Tests.{by-cases, either, clash, or-left, or-right}
-use Rattle.masks.specs.Masks.{mostLanes}
-use Rattle.masks.proofs.Lanes.{below-lanes, lanes-below, within-lane, Inside, inside-within}
+use Rattle.masks.specs.Masks.{mostLanes, Inside}
+use Rattle.masks.proofs.Lanes.{below-lanes, lanes-below, within-lane, inside-within}
 use Rattle.lane_rules.specs.declared.View.{View}
 use Rattle.lane_rules.specs.declared.Answer.{Answer}
 use Rattle.lane_rules.specs.declared.Verdict.{Verdict}

@@ -9,9 +9,9 @@ use lib.Dec.{eqb}
 use borrow.Author.Tests.{eqb-true, eqb-false}
 use Rattle.strips.specs.Strips.{byteAt}
 use Rattle.booleans.proofs.Tests.{by-cases, either, clash}
-use Rattle.masks.specs.Masks.{laneIn, lowestCleared}
+use Rattle.masks.specs.Masks.{laneIn, lowestCleared, Inside}
 use Rattle.masks.proofs.Lanes.{cleared-same, cleared-other, no-lanes, below-bound, lanes-below}
-use Rattle.masks.proofs.Lanes.{Inside, inside-same, inside-then, inside-cleared, inside-lowest}
+use Rattle.masks.proofs.Lanes.{inside-same, inside-then, inside-cleared, inside-lowest}
 use Rattle.lane_rules.specs.declared.Said.{Said}
 use Rattle.lane_rules.specs.declared.Compared.{Compared}
 use Rattle.lane_rules.specs.declared.Refreshed.{Refreshed}

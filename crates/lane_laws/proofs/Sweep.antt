@@ -7,8 +7,8 @@ use mathlib.Core.Bool.{false}
 use lib.ListN.{length, List·getD-eq-default}
 use Rattle.strips.specs.Strips.{byteAt}
 use Rattle.booleans.proofs.Tests.{by-cases}
-use Rattle.masks.specs.Masks.{laneIn}
-use Rattle.masks.proofs.Lanes.{cleared-same, no-lane, Inside, inside-then}
+use Rattle.masks.specs.Masks.{laneIn, Inside}
+use Rattle.masks.proofs.Lanes.{cleared-same, no-lane, inside-then}
 use Rattle.lane_rules.specs.declared.Said.{Said}
 use Rattle.lane_rules.specs.declared.Compared.{Compared}
 use Rattle.lane_rules.specs.declared.Pass.{Pass}

@@ -7,7 +7,8 @@ use mathlib.Core.Bool.{true, false}
 use lib.Dec.{leb}
 use borrow.Author.Tests.{ne-eqb, leb-true}
 use Rattle.booleans.proofs.Tests.{clash, and-left}
-use Rattle.masks.proofs.Lanes.{no-lane, Inside, inside-same}
+use Rattle.masks.specs.Masks.{Inside}
+use Rattle.masks.proofs.Lanes.{no-lane, inside-same}
 use Rattle.lane_rules.specs.declared.View.{View}
 use Rattle.lane_rules.specs.declared.Said.{Said}
 use Rattle.lane_rules.specs.declared.Pass.{Pass}

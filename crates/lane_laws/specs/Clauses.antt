@@ -5,8 +5,7 @@ use mathlib.Core.List.{List}
 use mathlib.Core.Bool.{Bool, true, false, _&&_}
 use lib.Dec.{leb}
 use Rattle.strips.specs.Strips.{properStrip}
-use Rattle.masks.specs.Masks.{mostLanes, laneIn}
-use Rattle.masks.proofs.Lanes.{Inside}
+use Rattle.masks.specs.Masks.{mostLanes, laneIn, Inside}
 use Rattle.lane_rules.specs.declared.View.{View}
 use Rattle.lane_rules.specs.declared.Said.{Said}
 use Rattle.lane_rules.specs.declared.Pass.{Pass}

@@ -1,5 +1,5 @@
--- Masks lane by lane: which lanes a definition takes out, puts in or keeps, and when two masks are equal. The power of lane l, or of
--- a height l, is 2 ^ l.
+-- Masks lane by lane: which lanes a definition takes out, puts in or keeps, and when two masks are equal. The power of lane l, or
+-- of a height l, is 2 ^ l.
 use Prim.Native.Nat.{ℕ, zero, suc, _+_, _-_, _*_, _/_, _%_, _^_, _≤_, _<_}
 use native.Mathlib.Nat.{mod-lt, mod-le, mod-eq-of-lt, mod-one, div-add-mod', div-eq-of-lt, lt-of-lt-of-le, lt-of-le-of-lt}
 use native.Mathlib.Numerals.{one-add}
@@ -9,7 +9,7 @@ use mathlib.Core.Bool.{Bool, true, false, true≢false, cond, not, _&&_, _||_, a
 use lib.Dec.{eqb, ltb}
 use lib.Pow.{pow-pos, pow-mono, split, high, low, field, shr-shr, mod-pow-add, mod-mod-pow}
 use borrow.Author.Tests.{eqb-true, eqb-false, ltb-true, ltb-false, lt-ltb, le-ltb}
-use Rattle.masks.specs.Masks.{mostLanes, digit, laneIn, cleared, entered, lanesBelow, withinBelow, within, lowestFrom, lowest, lowestCleared}
+use Rattle.masks.specs.Masks.{mostLanes, digit, laneIn, cleared, entered, lanesBelow, withinBelow, within, lowestFrom, lowest, lowestCleared, Inside}
 
 -- a digit is 0 or 1
 pub digit-two : (m l : ℕ) → digit m l < 2
@@ -319,10 +319,6 @@ lane-within a b f = lane-within-below mostLanes a b f
 -- a mask is within itself
 pub within-same : (a : ℕ) → within a a ≡ true
 within-same a = lane-within a a (λ l lt i. i)
-
--- each lane of the one mask is in the other
-abbrev pub Inside : ℕ → ℕ → Type 0
-Inside a b = (l : ℕ) → laneIn a l ≡ true → laneIn b l ≡ true
 
 -- a mask is inside itself
 pub inside-same : (a : ℕ) → Inside a a

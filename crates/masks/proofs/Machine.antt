@@ -4,12 +4,13 @@ use native.Mathlib.Nat.{mod-eq-of-lt, one-mul, lt-of-le-of-lt}
 use native.Mathlib.Numerals.{one-add}
 use native.Mathlib.Omega.{arith}
 use mathlib.Core.Path.{_≡_, refl, sym, ap, ap₂, _∙_}
-use mathlib.Core.Bool.{Bool, true, false, true≢false}
+use mathlib.Core.Bool.{Bool, true, false, cond, true≢false}
 use lib.Dec.{eqb}
-use lib.Pow.{pow-pos, pow-lt, ones-lt}
+use lib.Count.{trailingZeros, under}
+use lib.Pow.{pow-pos, pow-lt, ones-lt, shr-shr}
 use lib.Bits.{bitAnd, bitOr, and-step, and-self, and-le-l, and-mask, and-high, and-block, and-shr, or-add-and}
 use borrow.Author.Tests.{eq-eqb, ne-eqb, lt-ltb}
-use Rattle.masks.specs.Masks.{mostLanes, digit, laneIn, cleared, entered, lanesBelow, within, lowest, lowestCleared}
+use Rattle.masks.specs.Masks.{mostLanes, digit, laneIn, cleared, entered, lanesBelow, within, lowestFrom, lowest, lowestCleared}
 use Rattle.masks.proofs.Lanes.{digit-two, lane-digit, no-lane-digit, digit-lane, same-lane, own-digit, below-small, lane-below, cleared-in, entered-in, entered-not-in, same-lanes, no-lanes, within-lane, lane-within, lowest-first, lowest-in}
 
 -- a shift and a mask of one digit read a lane
@@ -129,3 +130,26 @@ and-lowest m small some = and-first m (lowest m) none (lowest-in m small some)
     none =
         no-lanes (lanesBelow m (lowest m)) (lowest m) (below-small m (lowest m))
         (λ l lt. lane-below m (lowest m) l ∙ rw (lt-ltb l (lowest m) lt) (lowest-first m l lt))
+
+-- the zeros below a mask's lowest digit, from a lane on, count up to its first lane
+zeros-from : (k l m : ℕ) → trailingZeros k (m / 2 ^ l) + l ≡ lowestFrom k l m
+unfolding trailingZeros lowestFrom digit laneIn
+zeros-from zero l m = omega arith
+zeros-from (suc k) l m =
+    go (m / 2 ^ l % 2) (omega arith)
+    (ap (λ (n : ℕ). trailingZeros k n + (l + 1)) (shr-shr m l 1) ∙ zeros-from k (l + 1) m)
+  where
+    go :
+        (d : ℕ) → d < 2 → trailingZeros k (m / 2 ^ l / 2) + (l + 1) ≡ lowestFrom k (l + 1) m →
+        under d (trailingZeros k (m / 2 ^ l / 2)) + l ≡ cond (eqb d 1) l (lowestFrom k (l + 1) m)
+    go zero two e = omega (arith, e)
+    go (suc zero) two e = omega arith
+    go (suc (suc d)) two e = omega arith
+
+-- the zeros below its lowest digit are the number of its lowest lane
+pub zeros-lowest : (m : ℕ) → trailingZeros mostLanes m ≡ lowest m
+unfolding lowest
+zeros-lowest m =
+    let whole : m / 2 ^ 0 ≡ m = omega arith in
+    let from = zeros-from mostLanes 0 m in
+    ap (trailingZeros mostLanes) (sym whole) ∙ omega (arith, from)

@@ -1,5 +1,6 @@
 -- A mask of 32 lanes is a number: lane l is in it where the digit of 2 ^ l is 1.
 use Prim.Native.Nat.{ℕ, zero, suc, _+_, _-_, _*_, _/_, _%_, _^_}
+use mathlib.Core.Path.{_≡_}
 use mathlib.Core.Bool.{Bool, true, cond, not, _&&_, _||_}
 use lib.Dec.{eqb, ltb}
 
@@ -48,3 +49,7 @@ lowest mask = lowestFrom mostLanes 0 mask
 -- the mask without its lowest lane, if it has any
 unfoldable pub lowestCleared : ℕ → ℕ
 lowestCleared mask = cleared mask (lowest mask)
+
+-- each lane of the one mask is in the other
+abbrev pub Inside : ℕ → ℕ → Type 0
+Inside a b = (l : ℕ) → laneIn a l ≡ true → laneIn b l ≡ true
