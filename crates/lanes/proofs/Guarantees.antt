@@ -1,11 +1,12 @@
 -- What holds of every result of a lane call, by its promise alone: liveness, the rounds told, retired exactly where it was
 -- accepted, and upstream's clauses.
 use Prim.Native.Nat.{ℕ, _+_, _/_, _≤_, _<_}
-use mathlib.Core.Path.{_≡_, sym, subst, _∙_}
+use mathlib.Core.Path.{_≡_, refl, sym, subst, _∙_}
 use mathlib.Core.List.{List}
 use mathlib.Core.Bool.{true}
 use mathlib.Core.Logic.{_↔_}
 use lib.ListN.{length}
+use Rattle.strips.specs.Strips.{mostBytes}
 use Rattle.lane_rules.specs.declared.View.{View}
 use Rattle.lane_rules.specs.declared.Answer.{Answer}
 use Rattle.lane_rules.specs.declared.Verdict.{Verdict}
@@ -16,6 +17,7 @@ use Rattle.lane_laws.specs.Clauses.{PassClauses, RefreshedClauses, DetachClause
 use Rattle.lane_laws.specs.Ends.{NoErrors, MetNoError, HadRounds, Retired}
 use Rattle.lane_laws.proofs.Exactly as exactly
 use Rattle.lane_laws.proofs.Live as live
+use Rattle.lane_laws.proofs.Slow as slow
 use Rattle.lane_laws.proofs.Upstream as upstream
 use Rattle.lanes.specs.Promises.{CachedPromise, RefreshedPromise, DetachPromise}
 use Rattle.lanes.proofs.Outcomes.{seen-injective}
@@ -81,3 +83,12 @@ more-rounds v strip n m r s p q h e =
     let a : r ≡ detachOf v strip n = seen-injective r (detachOf v strip n) p in
     let b : s ≡ detachOf v strip m = seen-injective s (detachOf v strip m) q in
     b ∙ (live.more-rounds v strip n m h (subst (λ (o : Done). HadRounds (o .answer)) a e) ∙ sym a)
+
+-- and no smaller number of rounds, by the length of the strip, would let every detach end retired
+pub no-fewer :
+    (few : ℕ → ℕ) →
+    ((v : View) (strip : List ℕ) (r : Done) → DetachPromise v strip (few (length strip)) r →
+    detachChecks v strip ≡ Verdict.Passes → NoErrors strip → Retired r) →
+    (n : ℕ) → n ≤ mostBytes → n / 2 + 2 ≤ few n
+no-fewer few enough n h =
+    slow.no-fewer few (λ v strip c e. enough v strip (detachOf v strip (few (length strip))) refl c e) n h
