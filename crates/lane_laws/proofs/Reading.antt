@@ -1,5 +1,5 @@
 -- The bytes of the strip that each part reads: at most one to a lane and a refresh, and at least two in a round that says no.
-use Prim.Native.Nat.{ℕ, zero, suc, _+_, _*_, _≤_}
+use Prim.Native.Nat.{ℕ, zero, suc, _+_, _≤_}
 use native.Mathlib.Omega.{arith}
 use mathlib.Core.Path.{_≡_, refl, sym, _∙_}
 use mathlib.Core.List.{List}
@@ -11,10 +11,9 @@ use Rattle.lane_rules.specs.declared.Said.{Said}
 use Rattle.lane_rules.specs.declared.Compared.{Compared}
 use Rattle.lane_rules.specs.declared.Pass.{Pass}
 use Rattle.lane_rules.specs.declared.Round.{Round}
-use Rattle.lane_rules.specs.declared.Ended.{Ended}
 use Rattle.lane_rules.specs.Steps.{compared, refreshed}
 use Rattle.lane_rules.specs.Passes.{bySaid, failed, cachedPass, tryLane, refreshedFrom}
-use Rattle.lane_rules.specs.Rounds.{round, rounds, detaching}
+use Rattle.lane_rules.specs.Rounds.{round}
 use Rattle.lane_laws.proofs.Cases.{by-said, yes-not-no, error-not-no}
 
 -- a part of a call that began where `from` bytes were read has read at least `least` and at most `most` of them
@@ -106,36 +105,3 @@ module _ (strip : List ℕ) (height : ℕ) where
       by-cases (λ (r : Round). r .said ≡ Said.No → read + 2 ≤ r .read) (f .failed)
       (λ e n. absurd (error-not-no n))
       (λ e n. let a = no-reads strip (f .window) height (begun (f .attached) (read + 1)) refl n in omega arith)
-
-  -- rounds only read on, each at most so far
-  pub rounds-reads :
-      (left made attached window read : ℕ) →
-      Reads read 0 (left * (height + 1)) (rounds strip height left made attached window read .read)
-  unfolding rounds
-  rounds-reads zero made attached window read = record { low = omega arith; high = omega arith }
-  rounds-reads (suc left) made attached window read =
-      let r = round strip height attached window read in
-      let once = round-reads attached window read in
-      let more = rounds-reads left (made + 1) (r .attached) (r .window) (r .read) in
-      let a = once .low in
-      let b = once .high in
-      let here : Reads read 0 (suc left * (height + 1)) (r .read) = record { low = omega arith; high = omega arith } in
-      by-said (λ (e : Ended). Reads read 0 (suc left * (height + 1)) (e .read)) (r .said)
-      (λ s. here)
-      (λ s. let c = more .low in let d = more .high in record { low = omega arith; high = omega arith })
-      (λ s. here)
-
-  -- a detach reads at most a byte to a lane in its cached pass, and one more than that in each round
-  pub detach-reads :
-      (lent attached window : ℕ) → Reads 0 0 (height + lent * (height + 1)) (detaching strip height lent attached window .read)
-  unfolding detaching
-  detach-reads lent attached window =
-      let p = cachedPass strip height window attached 0 in
-      let once = cached-reads strip window height attached 0 in
-      let more = rounds-reads lent 0 (p .attached) window (p .read) in
-      let b = once .high in
-      let here : Reads 0 0 (height + lent * (height + 1)) (p .read) = record { low = omega arith; high = omega arith } in
-      by-said (λ (e : Ended). Reads 0 0 (height + lent * (height + 1)) (e .read)) (p .said)
-      (λ s. here)
-      (λ s. let c = more .low in let d = more .high in record { low = omega arith; high = omega arith })
-      (λ s. here)
