@@ -116,11 +116,23 @@ pub rounds-made :
     -- no attached lane and a full window: the cached pass says no, and one round is needed
     ∷ detachOf (view 1 0 1) [] 0 gives row 25 0 0 1 0
     ∷ detachOf (view 1 0 1) [] 1 gives row 0 1 0 0 1
+    -- a compare of the cached pass that said no has read its byte, and the refresh reads the next
+    ∷ detachOf (view 1 1 1) (1 ∷ 2 ∷ []) 5 gives row 24 1 1 1 0
     -- rounds that are not needed are not made
     ∷ detachOf (view 1 1 0) (0 ∷ 1 ∷ []) 9 gives row 0 3 0 0 1
     ∷ [])
 unfolding computing
 rounds-made = refl
+
+-- height and guarded flag stay, whatever is done
+pub whole-views :
+    cachedOf (view 3 7 7) [] .view ∷ refreshedOf (view 3 5 5) [] .view ∷ detachOf (view 3 7 6) [] 2 .view ∷ []
+    ≡ view 3 0 7
+    ∷ view 3 0 5
+    ∷ record { height = 3; guarded = 1; retired = 1; attached = 0; window = 0 }
+    ∷ []
+unfolding computing
+whole-views = refl
 
 -- window bits at or above the height are ignored, and handed back unless a refresh set the window
 pub high-window :
