@@ -13,11 +13,12 @@ use masks::lane_in;
 use strips::byte_at;
 ghost use Prim.Native.Nat.{_+_, _^_, _≤_, _<_};
 ghost use mathlib.Core.Path.{_≡_};
+ghost use mathlib.Core.Bool.{true, false};
 ghost use Rattle.masks.specs.Masks.{mostLanes};
 ghost use Rattle.lane_rules.specs.declared.Said.{Said};
 ghost use Rattle.lane_rules.specs.Steps.{compared, refreshed};
 ghost use Rattle.lane_rules.specs.Passes.{bySaid, failed, cachedPass, tryLane, refreshedPass};
-ghost use Rattle.lane_rules.specs.Rounds.{round, rounds, detaching};
+ghost use Rattle.lane_rules.specs.Rounds.{passWith, round, endedBy, rounds, detaching};
 
 // Byte 0 clears the lane and says yes if it is attached, else no; byte 1 says no; byte 2 is an error.
 fn compare(byte: u8, lane: u32, attached: u32) -> Compared
@@ -85,6 +86,17 @@ fn has_failed(pass: Pass) -> bool
     }
 }
 
+// It says yes.
+fn is_yes(said: Said) -> bool
+    ensures { λ r. ⌜ r ≡ bySaid said true false false ⌝ }
+{
+    match said {
+        Said::Yes => true,
+        Said::No => false,
+        Said::Error => false,
+    }
+}
+
 // The cached pass: from the top lane down, no at the first lane that is outside the window or is not cleared.
 pub fn cached_pass(strip: &[u8], height: u32, window: u32, attached: u32) -> Pass
     ensures { λ r. ⌜ r ≡ cachedPass (now (strip .entry)) height window attached 0 ⌝ }
@@ -105,22 +117,12 @@ pub fn cached_pass(strip: &[u8], height: u32, window: u32, attached: u32) -> Pas
         let said = tried.said;
         remain = tried.attached;
         read += 1;
-        match said {
-            Said::Yes => {}
-            Said::No => {
-                return Pass {
-                    said: Said::No,
-                    attached: remain,
-                    read,
-                };
-            }
-            Said::Error => {
-                return Pass {
-                    said: Said::Error,
-                    attached: remain,
-                    read,
-                };
-            }
+        if !is_yes(said) {
+            return Pass {
+                said,
+                attached: remain,
+                read,
+            };
         }
     }
     Pass {
@@ -179,6 +181,19 @@ pub fn refreshed_pass(strip: &[u8], height: u32, window: u32, attached: u32, sta
     pass
 }
 
+// A pass with the window that it went by.
+fn pass_with(window: u32, pass: Pass) -> Round
+    ensures { λ r. ⌜ r ≡ passWith window pass ⌝ }
+{
+    let said = pass.said;
+    Round {
+        said,
+        attached: pass.attached,
+        window,
+        read: pass.read,
+    }
+}
+
 // A refresh, and then a refreshed pass, unless the refresh failed.
 fn round_of(strip: &[u8], height: u32, attached: u32, window: u32, read: usize) -> Round
     requires { ⌜ read + 1 + height < 2 ^ 64 ⌝ }
@@ -193,66 +208,43 @@ fn round_of(strip: &[u8], height: u32, attached: u32, window: u32, read: usize) 
             read: read + 1,
         };
     }
-    let pass = refreshed_pass(strip, height, found.window, found.attached, read + 1);
-    let said = pass.said;
-    Round {
-        said,
-        attached: pass.attached,
-        window: found.window,
-        read: pass.read,
+    pass_with(
+        found.window,
+        refreshed_pass(strip, height, found.window, found.attached, read + 1),
+    )
+}
+
+// A round as the end of a detach.
+fn ended_by(answer: Answer, round: Round) -> Ended
+    ensures { λ r. ⌜ r ≡ endedBy answer round ⌝ }
+{
+    Ended {
+        answer,
+        attached: round.attached,
+        window: round.window,
+        read: round.read,
     }
 }
 
-// Rounds until a yes. The number of rounds that are left falls, and nothing else bounds them; those made are what it has fallen
-// by, each refresh begun counting, a failed one too.
-fn rounds_of(
-    strip: &[u8],
-    height: u32,
-    lent: u32,
-    attached: u32,
-    window: u32,
-    start: usize,
-) -> Ended
-    requires { ⌜ (height ≤ mostLanes) × (start ≤ mostLanes) ⌝ }
-    ensures { λ r. ⌜ r ≡ rounds (now (strip .entry)) height lent 0 attached window start ⌝ }
+// Rounds until a yes, from where another part of the call left off. The number of rounds that are left falls, and nothing else
+// bounds them; those made are what it has fallen by, each refresh begun counting, a failed one too.
+fn rounds_of(strip: &[u8], height: u32, lent: u32, start: Round) -> Ended
+    requires { ⌜ (height ≤ mostLanes) × (start .read ≤ mostLanes) ⌝ }
+    ensures { λ r. ⌜ r ≡ rounds (now (strip .entry)) height lent 0 (start .attached) (start .window) (start .read) ⌝ }
 {
-    let mut remain = attached;
-    let mut seen = window;
-    let mut read = start;
+    let mut last = start;
     let mut left = lent;
     while left > 0 {
         left -= 1;
-        let round = round_of(strip, height, remain, seen, read);
-        remain = round.attached;
-        seen = round.window;
-        read = round.read;
-        let said = round.said;
+        last = round_of(strip, height, last.attached, last.window, last.read);
+        let said = last.said;
         match said {
-            Said::Yes => {
-                return Ended {
-                    answer: Answer::Accepted(lent - left),
-                    attached: remain,
-                    window: seen,
-                    read,
-                };
-            }
+            Said::Yes => return ended_by(Answer::Accepted(lent - left), last),
             Said::No => {}
-            Said::Error => {
-                return Ended {
-                    answer: Answer::Offset(lent - left),
-                    attached: remain,
-                    window: seen,
-                    read,
-                };
-            }
+            Said::Error => return ended_by(Answer::Offset(lent - left), last),
         }
     }
-    Ended {
-        answer: Answer::Budget(lent),
-        attached: remain,
-        window: seen,
-        read,
-    }
+    ended_by(Answer::Budget(lent), last)
 }
 
 // The cached pass, and then rounds until a yes.
@@ -260,21 +252,11 @@ pub fn detach(strip: &[u8], height: u32, lent: u32, attached: u32, window: u32) 
     requires { ⌜ height ≤ mostLanes ⌝ }
     ensures { λ r. ⌜ r ≡ detaching (now (strip .entry)) height lent attached window ⌝ }
 {
-    let pass = cached_pass(strip, height, window, attached);
-    let said = pass.said;
+    let first = pass_with(window, cached_pass(strip, height, window, attached));
+    let said = first.said;
     match said {
-        Said::Yes => Ended {
-            answer: Answer::Accepted(0),
-            attached: pass.attached,
-            window,
-            read: pass.read,
-        },
-        Said::No => rounds_of(strip, height, lent, pass.attached, window, pass.read),
-        Said::Error => Ended {
-            answer: Answer::Offset(0),
-            attached: pass.attached,
-            window,
-            read: pass.read,
-        },
+        Said::Yes => ended_by(Answer::Accepted(0), first),
+        Said::No => rounds_of(strip, height, lent, first),
+        Said::Error => ended_by(Answer::Offset(0), first),
     }
 }

@@ -3,12 +3,12 @@ use Prim.Native.Nat.{ℕ, _-_}
 use native.Mathlib.Omega.{arith}
 use mathlib.Core.Path.{_≡_, sym, ap, _∙_}
 use mathlib.Core.Bool.{true}
-use borrow.Author.Needs.{needs}
 use borrow.Author.Tests.{not-true, not-false}
+use borrow.Author.Needs.{needs}
 use Rattle.strips.specs.Strips.{byteAt}
 use Rattle.masks.specs.Masks.{laneIn}
 use Rattle.lane_rules.specs.Steps.{compared}
-use Rattle.passes.proofs.Caching.{Caching, caching-start, caching-outside, caching-end, caching-yes, caching-no, caching-error}
+use Rattle.passes.proofs.Caching.{Caching, caching-start, caching-outside, caching-end, caching-yes, caching-stop}
 use Rattle.passes.proofs.cached_pass.Statement.{statement}
 use Rattle.passes.proofs.cached_pass.Tie as tie
 
@@ -60,8 +60,15 @@ add-read : tie.Need-add-read Inv-loop μ-loop
 add-read c =
     let few = turn c .loop .inv .few in let low = c .before .before .before .before .loop-test .taken in search needs
 
-enum-told : tie.Need-enum-told Inv-loop μ-loop
-enum-told c = search needs
+is-yes-requires : tie.Need-is-yes-requires Inv-loop μ-loop
+is-yes-requires c κs = search needs
+
+returns-2 : tie.Need-returns-2 Inv-loop μ-loop
+returns-2 c =
+    let at = c .before .before in
+    sym
+    (caching-stop (turn at .loop .inv) (at .compare .result) (at .before .before .before .before .loop-test .taken) (inside at)
+    (found at) (sym (c .before .is-yes .ensures) ∙ not-true _ (c .if2 .taken)))
 
 loop-less : tie.Need-loop-less Inv-loop μ-loop
 loop-less c = search needs
@@ -70,30 +77,10 @@ loop-again : tie.Need-loop-again Inv-loop μ-loop
 loop-again c =
     let at = c .before .before in
     caching-yes (turn at .loop .inv) (at .compare .result) (at .before .before .before .before .loop-test .taken) (inside at)
-    (found at) (c .enum-told .given .1)
-
-enum-told-2 : tie.Need-enum-told-2 Inv-loop μ-loop
-enum-told-2 c = search needs
-
-returns-2 : tie.Need-returns-2 Inv-loop μ-loop
-returns-2 c =
-    let at = c .before .before in
-    sym
-    (caching-no (turn at .loop .inv) (at .compare .result) (at .before .before .before .before .loop-test .taken) (inside at)
-    (found at) (c .enum-told2 .given .1))
-
-enum-told-3 : tie.Need-enum-told-3 Inv-loop μ-loop
-enum-told-3 c = search needs
+    (found at) (sym (c .before .is-yes .ensures) ∙ not-false _ (c .if2 .left))
 
 returns-3 : tie.Need-returns-3 Inv-loop μ-loop
-returns-3 c =
-    let at = c .before .before in
-    sym
-    (caching-error (turn at .loop .inv) (at .compare .result) (at .before .before .before .before .loop-test .taken) (inside at)
-    (found at) (c .enum-told3 .given .1))
-
-returns-4 : tie.Need-returns-4 Inv-loop μ-loop
-returns-4 c = sym (caching-end (c .before .loop .inv) (omega arith))
+returns-3 c = sym (caching-end (c .before .loop .inv) (omega arith))
 
 pub cached-pass-spec : {M : Type 1} → statement M
 cached-pass-spec =
@@ -108,11 +95,8 @@ cached-pass-spec =
     byte-at-requires
     compare-requires
     add-read
-    enum-told
+    is-yes-requires
+    returns-2
     loop-less
     loop-again
-    enum-told-2
-    returns-2
-    enum-told-3
-    returns-3
-    returns-4)
+    returns-3)

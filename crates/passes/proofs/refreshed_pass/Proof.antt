@@ -28,8 +28,8 @@ returns : tie.Need-returns Inv-loop μ-loop
 returns c =
     let at = c .before .before in
     sym
-    (refreshing-error (at .before .before .loop .inv) (at .try-lane .result) (at .before .loop-test .taken) (at .try-lane .ensures)
-    (sym (c .before .has-failed .ensures) ∙ c .if1 .taken))
+    (refreshing-error (at .before .before .loop .inv) (at .try-lane .result) (at .before .loop-test .taken)
+    (at .try-lane .ensures) (sym (c .before .has-failed .ensures) ∙ c .if1 .taken))
 
 loop-less : tie.Need-loop-less Inv-loop μ-loop
 loop-less c = search needs

@@ -13,8 +13,8 @@ byte-at-requires c κs = search needs
 refresh-requires : tie.Need-refresh-requires
 refresh-requires c κs = search needs
 
-add-t12 : tie.Need-add-t12
-add-t12 c = search needs
+add-t10 : tie.Need-add-t10
+add-t10 c = search needs
 
 returns : tie.Need-returns
 returns c =
@@ -29,13 +29,17 @@ add-refreshed-pass c = search needs
 refreshed-pass-requires : tie.Need-refreshed-pass-requires
 refreshed-pass-requires c κs = search needs
 
+pass-with-requires : tie.Need-pass-with-requires
+pass-with-requires c κs = search needs
+
 returns-2 : tie.Need-returns-2
 returns-2 c =
-    let given = c .before .before .before .before .before .args in
-    let at = c .before .before in
+    let given = c .before .before .before .before .before .before .args in
+    let at = c .before .before .before in
     let byte = ap (λ (b : ℕ). refreshed b (given .attached) (given .window)) (at .before .byte-at .ensures) in
-    round-passed (given .strip .now) _ _ _ _ (at .refresh .result) (at .refresh .ensures ∙ byte) (c .refreshed-pass .result)
-    (c .before .if1 .left) (c .refreshed-pass .ensures)
+    c .pass-with .ensures
+    ∙ round-passed (given .strip .now) _ _ _ _ (at .refresh .result) (at .refresh .ensures ∙ byte)
+    (c .before .refreshed-pass .result) (c .before .before .if1 .left) (c .before .refreshed-pass .ensures)
 
 pub round-of-spec : {M : Type 1} → statement M
 round-of-spec =
@@ -43,8 +47,9 @@ round-of-spec =
     (tie.spec
     byte-at-requires
     refresh-requires
-    add-t12
+    add-t10
     returns
     add-refreshed-pass
     refreshed-pass-requires
+    pass-with-requires
     returns-2)
