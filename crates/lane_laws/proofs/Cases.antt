@@ -15,13 +15,13 @@ by-said P Said.Yes f g h = f refl
 by-said P Said.No f g h = g refl
 by-said P Said.Error f g h = h refl
 
--- two choices that differ only in what comes of a no are equal where that is equal
-pub same-choice :
-    {A : Type 0} (P : A → Type 0) (s : Said) (x y y′ z : A) → (P y → y′ ≡ y) → P (bySaid s x y z) →
-    bySaid s x y′ z ≡ bySaid s x y z
-same-choice P Said.Yes x y y′ z f h = refl
-same-choice P Said.No x y y′ z f h = f h
-same-choice P Said.Error x y y′ z f h = refl
+-- two choices that differ only in what comes of a no stand to each other as each pair of their cases does
+pub by-both :
+    {A : Type 0} (P : A → A → Type 0) (s : Said) (x y y′ z : A) → P x x → P y y′ → P z z →
+    P (bySaid s x y z) (bySaid s x y′ z)
+by-both P Said.Yes x y y′ z f g h = f
+by-both P Said.No x y y′ z f g h = g
+by-both P Said.Error x y y′ z f g h = h
 
 -- a yes is not a no
 pub yes-not-no : Said.Yes ≡ Said.No → ⊥
@@ -42,3 +42,9 @@ error-not-no e = let z : _≡_ {A = ℕ} 0 1 = cc in omega arith
 -- answers with different numbers are different
 pub other-number : {a b : Answer} → a ≡ b → (toldOf a .answer ≡ toldOf b .answer → ⊥) → ⊥
 other-number e f = f (ap (λ (a : Answer). toldOf a .answer) e)
+
+-- a pass tells 1 where it says yes only
+pub yes-told : (s : Said) → bySaid s (Answer.Accepted 1) (Answer.Accepted 0) (Answer.Offset 0) ≡ Answer.Accepted 1 → s ≡ Said.Yes
+yes-told Said.Yes e = refl
+yes-told Said.No e = let z : _≡_ {A = ℕ} 0 1 = cc in absurd (omega arith)
+yes-told Said.Error e = let z : _≡_ {A = ℕ} 0 1 = cc in absurd (omega arith)

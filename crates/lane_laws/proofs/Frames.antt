@@ -1,5 +1,5 @@
 -- What is left of the attached lanes: each part of a call only clears lanes, a pass those of its window, and a yes leaves none.
-use Prim.Native.Nat.{ℕ, zero, suc, _+_}
+use Prim.Native.Nat.{ℕ, zero, suc, _+_, _<_}
 use native.Mathlib.Omega.{arith}
 use mathlib.Core.Path.{_≡_, refl, sym, ap, _∙_}
 use mathlib.Core.List.{List}
@@ -37,11 +37,16 @@ below-inside height a b i h lane e = h lane (i lane e)
 pub none-inside : (height a b : ℕ) → Inside b a → NoneBelow a height → NoneBelow b height
 none-inside height a b i h lane l = lane-inside a b lane i (h lane l)
 
--- one lane more
-pub none-next : (lane a : ℕ) → laneIn a lane ≡ false → NoneBelow a lane → NoneBelow a (suc lane)
-none-next lane a e h other l =
-    ⊎-elim (λ t. rw (eqb-true other lane t) e) (λ f. let n = eqb-false other lane f in h other (omega arith))
+-- what holds of a lane, and of each below it, holds of each below the next
+pub each-next :
+    (P : ℕ → Type 0) (lane : ℕ) → P lane → ((other : ℕ) → other < lane → P other) → (other : ℕ) → other < suc lane → P other
+each-next P lane p h other l =
+    ⊎-elim (λ t. rw (eqb-true other lane t) p) (λ f. let n = eqb-false other lane f in h other (omega arith))
     (either (eqb other lane))
+
+-- none, with one lane more
+pub none-next : (lane a : ℕ) → laneIn a lane ≡ false → NoneBelow a lane → NoneBelow a (suc lane)
+none-next lane a e h = each-next (λ other. laneIn a other ≡ false) lane e h
 
 -- where all lanes were below the height, and none there is left, the mask is empty
 pub none-left : (height a b : ℕ) → Inside b a → AllBelow a height → NoneBelow b height → b ≡ 0

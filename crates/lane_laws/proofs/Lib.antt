@@ -6,6 +6,7 @@ pub mod Entry
 pub mod Frames
 pub mod Sweep
 pub mod Exactly
+pub mod Yes
 pub mod Live
 pub mod Slow
 pub mod Upstream

@@ -6,6 +6,7 @@ use native.Mathlib.Omega.{arith}
 use mathlib.Core.Path.{_≡_, refl, ap}
 use mathlib.Core.List.{List}
 use mathlib.Core.Bool.{Bool, true, false}
+use mathlib.Core.Logic.{_⊎_, inl, inr, ⊎-elim, _↔_}
 use lib.ListN.{length}
 use lib.Dec.{leb}
 use borrow.Author.Tests.{leb-true, leb-false}
@@ -19,8 +20,8 @@ use Rattle.lane_rules.specs.Passes.{cachedPass}
 use Rattle.lane_rules.specs.Rounds.{round, rounds, detaching}
 use Rattle.lane_rules.specs.Calls.{detachChecks, ended, unlessRefused, detachOf}
 use Rattle.lane_laws.specs.Clauses.{AllBelow, isRefusal}
-use Rattle.lane_laws.specs.Ends.{detachWork, Ends, yes, error, spent, NoErrors, MetNoError, HadRounds, Retired}
-use Rattle.lane_laws.proofs.Cases.{by-said, same-choice, other-number}
+use Rattle.lane_laws.specs.Ends.{detachWork, Ends, yes, error, spent, NoErrors, MetNoError, HadRounds, Retired, roundsNeeded}
+use Rattle.lane_laws.proofs.Cases.{by-said, by-both, other-number}
 use Rattle.lane_laws.proofs.Reading.{round-no-reads}
 use Rattle.lane_laws.proofs.Entry.{detach-passes}
 use Rattle.lane_laws.proofs.Frames.{below-inside, cached-leaves, round-leaves}
@@ -38,6 +39,14 @@ accepted-had-rounds a h n e = clash false (rw e at h) refl
 -- nor is what a check refuses with
 refused-had-rounds : (a : Answer) → isRefusal a ≡ true → HadRounds a
 refused-had-rounds a h n e = clash false (rw e at h) refl
+
+-- an end for want of rounds, beside one that had enough, which told more than these
+abbrev Short : ℕ → ℕ → Ended → Ended → Type 0
+Short n few a b = a .answer ≡ Answer.Budget n → HadRounds (b .answer) → few < toldOf (b .answer) .value
+
+-- an end that is that of more rounds too
+abbrev Alike : Ended → Ended → Type 0
+Alike a b = HadRounds (a .answer) → b ≡ a
 
 module _ (strip : List ℕ) (height : ℕ) where
   -- with no lane left, past the strip's end, the next round is the last
@@ -91,8 +100,43 @@ module _ (strip : List ℕ) (height : ℕ) where
   rounds-more (suc left) zero made attached window read k h = absurd (omega arith)
   rounds-more (suc left) (suc more) made attached window read k h =
       let r = round strip height attached window read in
-      same-choice (λ (e : Ended). HadRounds (e .answer)) (r .said) _ _ _ _
+      by-both Alike (r .said) _ _ _ _
+      (λ h. refl)
       (rounds-more left more (made + 1) (r .attached) (r .window) (r .read) (omega arith))
+      (λ h. refl)
+      h
+
+  -- rounds tell those made before them too
+  told-made :
+      (left made attached window read : ℕ) → made ≤ toldOf (rounds strip height left made attached window read .answer) .value
+  unfolding rounds
+  told-made zero made attached window read = omega arith
+  told-made (suc left) made attached window read =
+      let r = round strip height attached window read in
+      let more = told-made left (made + 1) (r .attached) (r .window) (r .read) in
+      by-said (λ (e : Ended). made ≤ toldOf (e .answer) .value) (r .said) (λ s. omega arith) (λ s. omega arith) (λ s. omega arith)
+
+  -- where rounds were too few, as many as were enough tell more than those
+  rounds-short :
+      (left more made attached window read n : ℕ) →
+      Short n (made + left) (rounds strip height left made attached window read)
+      (rounds strip height more made attached window read)
+  unfolding rounds
+  rounds-short left zero made attached window read n e h = absurd (h made refl)
+  rounds-short zero (suc more) made attached window read n e h =
+      let r = round strip height attached window read in
+      let told = told-made more (made + 1) (r .attached) (r .window) (r .read) in
+      by-said (λ (x : Ended). made + 0 < toldOf (x .answer) .value) (r .said)
+      (λ s. omega arith)
+      (λ s. omega arith)
+      (λ s. omega arith)
+  rounds-short (suc left) (suc more) made attached window read n e h =
+      let r = round strip height attached window read in
+      by-both (Short n (made + suc left)) (r .said) _ _ _ _
+      (λ e h. absurd (other-number e (omega arith)))
+      (λ e h. let k = rounds-short left more (made + 1) (r .attached) (r .window) (r .read) n e h in omega arith)
+      (λ e h. absurd (other-number e (omega arith)))
+      e
       h
 
   -- the same of the cached pass and the rounds behind it: enough
@@ -115,8 +159,20 @@ module _ (strip : List ℕ) (height : ℕ) where
   unfolding detaching
   detaching-more lent more attached window k h =
       let p = cachedPass strip height window attached 0 in
-      same-choice (λ (e : Ended). HadRounds (e .answer)) (p .said) _ _ _ _
-      (rounds-more lent more 0 (p .attached) window (p .read) k)
+      by-both Alike (p .said) _ _ _ _ (λ h. refl) (rounds-more lent more 0 (p .attached) window (p .read) k) (λ h. refl) h
+
+  -- and too few
+  detaching-short :
+      (lent more attached window n : ℕ) →
+      Short n lent (detaching strip height lent attached window) (detaching strip height more attached window)
+  unfolding detaching
+  detaching-short lent more attached window n e h =
+      let p = cachedPass strip height window attached 0 in
+      by-both (Short n lent) (p .said) _ _ _ _
+      (λ e h. absurd (other-number e (omega arith)))
+      (λ e h. let k = rounds-short lent more 0 (p .attached) window (p .read) n e h in omega arith)
+      (λ e h. absurd (other-number e (omega arith)))
+      e
       h
 
 module _ {strip : List ℕ} {lent from attached read : ℕ} where
@@ -132,7 +188,23 @@ module _ {strip : List ℕ} {lent from attached read : ℕ} where
   value-of (error n k e) = k
   value-of (spent c) = omega arith
 
+-- an answer is 25 or is not
+spent-or : (a : Answer) → ((n : ℕ) × (a ≡ Answer.Budget n)) ⊎ HadRounds a
+spent-or (Answer.Accepted m) = inr (had-rounds (Answer.Accepted m) (omega arith))
+spent-or Answer.Height = inr (had-rounds Answer.Height (omega arith))
+spent-or Answer.View = inr (had-rounds Answer.View (omega arith))
+spent-or Answer.Window = inr (had-rounds Answer.Window (omega arith))
+spent-or Answer.Strip = inr (had-rounds Answer.Strip (omega arith))
+spent-or (Answer.Offset m) = inr (had-rounds (Answer.Offset m) (omega arith))
+spent-or (Answer.Budget m) = inl (m, refl)
+
 module _ (v : View) (strip : List ℕ) where
+  -- a detach that was refused did not end for want of rounds
+  refused-otherwise :
+      (lent : ℕ) (a : Answer) → detachChecks v strip ≡ Verdict.Refused a → HadRounds (detachOf v strip lent .answer)
+  refused-otherwise lent a h n e =
+      let r = detach-refused v strip lent a h in refused-had-rounds a (r .number) n (rw (r .same) at e)
+
   -- with two rounds more than half its strip's bytes, no detach ends for want of rounds
   pub rounds-suffice : (lent : ℕ) → length strip / 2 + 2 ≤ lent → HadRounds (detachOf v strip lent .answer)
   unfolding detachOf
@@ -141,7 +213,7 @@ module _ (v : View) (strip : List ℕ) where
       go : (c : Verdict) → detachChecks v strip ≡ c → HadRounds (detachOf v strip lent .answer)
       go Verdict.Passes h =
           rw h (detaching-enough strip (v .height) lent (v .attached) (v .window) (detach-passes v strip .0 h .0 .below) k)
-      go (Verdict.Refused a) h = rw h (refused-had-rounds a (detach-refused v strip lent a h .number))
+      go (Verdict.Refused a) h = refused-otherwise lent a h
 
   -- where the rounds lent were enough, lending more changes nothing
   pub more-rounds : (n m : ℕ) → n ≤ m → HadRounds (detachOf v strip n .answer) → detachOf v strip m ≡ detachOf v strip n
@@ -157,6 +229,17 @@ module _ (v : View) (strip : List ℕ) where
   -- so from two more than half its strip's bytes on, it makes no difference how many are lent
   pub bound-rounds : (lent : ℕ) → length strip / 2 + 2 ≤ lent → detachOf v strip lent ≡ detachOf v strip (length strip / 2 + 2)
   bound-rounds lent k = more-rounds (length strip / 2 + 2) lent k (rounds-suffice (length strip / 2 + 2) (omega arith))
+
+  -- where the rounds lent were too few, the detach needs more than those
+  too-few :
+      (lent n : ℕ) → detachChecks v strip ≡ Verdict.Passes → detachOf v strip lent .answer ≡ Answer.Budget n →
+      lent < roundsNeeded v strip
+  unfolding detachOf
+  too-few lent n h e =
+      let bound = length strip / 2 + 2 in
+      rw (roundsNeeded, h)
+      (detaching-short strip (v .height) lent bound (v .attached) (v .window) n (rw h at e)
+      (rw h at (rounds-suffice bound (omega arith))))
 
   -- a detach not refused at entry that meets no storage error, with two rounds more than half its strip's bytes, ends retired
   pub detach-live :
@@ -212,10 +295,29 @@ module _ (v : View) (strip : List ℕ) where
     where
       all : (c : Verdict) → detachChecks v strip ≡ c → n ≡ lent
       all Verdict.Passes h = budget-lent v strip lent h n e
-      all (Verdict.Refused a) h =
-          let r = detach-refused v strip lent a h in
-          absurd (refused-had-rounds a (r .number) n (rw (r .same) at e))
+      all (Verdict.Refused a) h = absurd (refused-otherwise lent a h n e)
 
       fewer : (b : Bool) → leb (length strip / 2 + 2) lent ≡ b → lent < length strip / 2 + 2
       fewer true t = absurd (rounds-suffice lent (leb-true (length strip / 2 + 2) lent t) n e)
       fewer false t = leb-false (length strip / 2 + 2) lent t
+
+  -- 25 exactly where fewer rounds were lent than the detach needs
+  pub budget-exactly :
+      (lent : ℕ) → ((n : ℕ) × (detachOf v strip lent .answer ≡ Answer.Budget n)) ↔ (lent < roundsNeeded v strip)
+  budget-exactly lent = (
+    λ e. short (detachChecks v strip) refl (e .0) (e .1),
+    λ k. ⊎-elim (λ e. e) (λ h. absurd (enough k h)) (spent-or (detachOf v strip lent .answer)),
+  )
+    where
+      short :
+          (c : Verdict) → detachChecks v strip ≡ c → (n : ℕ) → detachOf v strip lent .answer ≡ Answer.Budget n →
+          lent < roundsNeeded v strip
+      short Verdict.Passes h n e = too-few lent n h e
+      short (Verdict.Refused a) h n e = absurd (refused-otherwise lent a h n e)
+
+      enough : lent < roundsNeeded v strip → HadRounds (detachOf v strip lent .answer) → ⊥
+      enough k h =
+          let most = told-rounds (length strip / 2 + 2) in
+          let same = more-rounds lent (length strip / 2 + 2) (omega arith) h in
+          let needed : roundsNeeded v strip ≤ lent = rw (roundsNeeded, same) (told-rounds lent) in
+          omega arith

@@ -56,11 +56,14 @@ module _ (strip : List ℕ) (window : ℕ) where
       rw (once .0)
       (none-next lane _ (lane-inside (q .attached) _ lane more (once .1)) (clears-all lane q (once .0) (omega arith) w))
 
--- a window with no lane leaves all as it is
-nothing-tried : (strip : List ℕ) (height : ℕ) (p : Pass) → failed p ≡ false → refreshedFrom strip height 0 p ≡ p
+-- a window with no lane below the height leaves all as it is
+pub nothing-tried :
+    (strip : List ℕ) (window height : ℕ) (p : Pass) → NoneBelow window height → failed p ≡ false →
+    refreshedFrom strip height window p ≡ p
 unfolding refreshedFrom tryLane
-nothing-tried strip zero p ok = refl
-nothing-tried strip (suc lane) p ok = rw (no-lane lane, ok) (nothing-tried strip lane p ok)
+nothing-tried strip window zero p none ok = refl
+nothing-tried strip window (suc lane) p none ok =
+    rw (none lane (omega arith), ok) (nothing-tried strip window lane p (λ other l. none other (omega arith)) ok)
 
 -- a round that says no leaves no lane, where its compares lie past the strip's end; its refresh may still read the last byte
 pub round-no :
@@ -85,4 +88,5 @@ pub last-round :
     (strip : List ℕ) (height window read : ℕ) → length strip ≤ read → round strip height 0 window read .said ≡ Said.Yes
 unfolding round refreshed
 last-round strip height window read past =
-    rw (past-end strip read past) (ap (λ (q : Pass). q .said) (nothing-tried strip height (begun 0 (read + 1)) refl))
+    let same = nothing-tried strip 0 height (begun 0 (read + 1)) (λ lane l. no-lane lane) refl in
+    rw (past-end strip read past) (ap (λ (q : Pass). q .said) same)

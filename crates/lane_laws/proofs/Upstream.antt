@@ -20,7 +20,7 @@ use Rattle.lane_rules.specs.Calls.{viewWith, passed, ended, cachedOf, refreshed
 use Rattle.lane_laws.specs.Clauses.{NoneBelow, Valid, Frame, isRefusal, WindowClauses, CompareClauses, RefreshClauses}
 use Rattle.lane_laws.specs.Clauses.{RetireClauses, PassClauses, RefreshedClauses, DetachClauses}
 use Rattle.lane_laws.specs.Ends.{cachedWork, refreshedWork, detachWork, Ends}
-use Rattle.lane_laws.proofs.Cases.{no-not-yes, error-not-yes}
+use Rattle.lane_laws.proofs.Cases.{no-not-yes, error-not-yes, yes-told}
 use Rattle.lane_laws.proofs.Reading.{begun}
 use Rattle.lane_laws.proofs.Entry.{detach-cases, refreshed-cases}
 use Rattle.lane_laws.proofs.Frames.{below-inside, compare-leaves, refresh-leaves, Clears, cached-leaves, refreshed-leaves}
@@ -89,13 +89,7 @@ refresh-clauses v byte =
 pub retire-clauses : (v : View) → RetireClauses v
 retire-clauses v = record { retired = refl; attached = refl; height = refl; guarded = λ r. r .guard; window = refl }
 
--- a pass tells 1 where it says yes only
-yes-told : (s : Said) → bySaid s (Answer.Accepted 1) (Answer.Accepted 0) (Answer.Offset 0) ≡ Answer.Accepted 1 → s ≡ Said.Yes
-yes-told Said.Yes e = refl
-yes-told Said.No e = let z : _≡_ {A = ℕ} 0 1 = cc in absurd (omega arith)
-yes-told Said.Error e = let z : _≡_ {A = ℕ} 0 1 = cc in absurd (omega arith)
-
--- it gives no answer of a check
+-- a pass gives no answer of a check
 told-unrefused : (s : Said) → isRefusal (bySaid s (Answer.Accepted 1) (Answer.Accepted 0) (Answer.Offset 0)) ≡ false
 told-unrefused Said.Yes = refl
 told-unrefused Said.No = refl

@@ -1,9 +1,11 @@
 -- The words in which the laws say how a pass and a detach end.
-use Prim.Native.Nat.{ℕ, _-_, _≤_, _<_}
+use Prim.Native.Nat.{ℕ, _+_, _-_, _/_, _≤_, _<_}
 use mathlib.Core.Path.{_≡_}
 use mathlib.Core.List.{List}
 use mathlib.Core.Bool.{true}
+use lib.ListN.{length}
 use Rattle.strips.specs.Strips.{byteAt}
+use Rattle.masks.specs.Masks.{laneIn}
 use Rattle.lane_rules.specs.declared.View.{View}
 use Rattle.lane_rules.specs.declared.Said.{Said}
 use Rattle.lane_rules.specs.declared.Pass.{Pass}
@@ -13,6 +15,7 @@ use Rattle.lane_rules.specs.declared.Done.{Done}
 use Rattle.lane_rules.specs.Answers.{toldOf, isAccepted}
 use Rattle.lane_rules.specs.Passes.{cachedPass, refreshedPass}
 use Rattle.lane_rules.specs.Rounds.{detaching}
+use Rattle.lane_rules.specs.Calls.{detachOf}
 use Rattle.lane_laws.specs.Clauses.{isRefusal}
 
 -- what a cached pass does past its checks
@@ -53,6 +56,12 @@ pub record RefusedWith (a : Answer) (v : View) (o : Done) : Type 0 where
   pub value : toldOf a .value ≡ 0
   pub same : o ≡ record { answer = a; view = v }
 
+-- each lane below the height is in the window and attached, and each byte for it, from a place on, is 0
+pub record AllCleared (strip : List ℕ) (window attached read height : ℕ) : Type 0 where
+  pub inWindow : (lane : ℕ) → lane < height → laneIn window lane ≡ true
+  pub isAttached : (lane : ℕ) → lane < height → laneIn attached lane ≡ true
+  pub zeros : (i : ℕ) → read ≤ i → i < read + height → byteAt strip i ≡ 0
+
 -- a pass ends with a yes and no lane attached, with a no, or at an error byte
 pub data PassEnds (strip : List ℕ) (attached read : ℕ) : Answer → Type 0 where
   said-yes : attached ≡ 0 → Clean strip 0 read → PassEnds strip attached read (Answer.Accepted 1)
@@ -78,3 +87,7 @@ pub record Retired (o : Done) : Type 0 where
   pub accepted : isAccepted (o .answer) ≡ true
   pub retired : o .view .retired ≡ 1
   pub detached : o .view .attached ≡ 0
+
+-- the rounds that a detach makes where enough are lent
+abbrev pub roundsNeeded : View → List ℕ → ℕ
+roundsNeeded v strip = toldOf (detachOf v strip (length strip / 2 + 2) .answer) .value

@@ -74,15 +74,17 @@ abbrev pub ended : View → Ended → Done
 ended v e =
     record { answer = e .answer; view = viewWith v (e .attached) (e .window) (cond (isAccepted (e .answer)) 1 (v .retired)) }
 
+-- the cached pass as a call
 unfoldable pub cachedOf : View → List ℕ → Done
 cachedOf v strip =
     unlessRefused (detachChecks v strip) v (passed v (cachedPass strip (v .height) (v .window) (v .attached) 0))
 
+-- the refreshed pass as a call
 unfoldable pub refreshedOf : View → List ℕ → Done
 refreshedOf v strip =
     unlessRefused (refreshedChecks v strip) v (passed v (refreshedPass strip (v .height) (v .window) (v .attached) 0))
 
--- so many rounds are lent
+-- detach, with so many rounds lent
 unfoldable pub detachOf : View → List ℕ → ℕ → Done
 detachOf v strip lent =
     unlessRefused (detachChecks v strip) v (ended v (detaching strip (v .height) lent (v .attached) (v .window)))

@@ -12,10 +12,11 @@ use Rattle.lane_rules.specs.declared.Answer.{Answer}
 use Rattle.lane_rules.specs.declared.Verdict.{Verdict}
 use Rattle.lane_rules.specs.declared.Done.{Done}
 use Rattle.lane_rules.specs.Answers.{toldOf, isAccepted}
-use Rattle.lane_rules.specs.Calls.{detachChecks, cachedOf, refreshedOf, detachOf}
-use Rattle.lane_laws.specs.Clauses.{PassClauses, RefreshedClauses, DetachClauses}
-use Rattle.lane_laws.specs.Ends.{NoErrors, MetNoError, HadRounds, Retired}
+use Rattle.lane_rules.specs.Calls.{detachChecks, refreshedChecks, cachedOf, refreshedOf, detachOf}
+use Rattle.lane_laws.specs.Clauses.{NoneBelow, PassClauses, RefreshedClauses, DetachClauses}
+use Rattle.lane_laws.specs.Ends.{AllCleared, NoErrors, MetNoError, HadRounds, Retired, roundsNeeded}
 use Rattle.lane_laws.proofs.Exactly as exactly
+use Rattle.lane_laws.proofs.Yes as yes
 use Rattle.lane_laws.proofs.Live as live
 use Rattle.lane_laws.proofs.Slow as slow
 use Rattle.lane_laws.proofs.Upstream as upstream
@@ -32,6 +33,22 @@ pub refreshed-clauses : (v : View) (strip : List ℕ) (r : Done) → RefreshedPr
 refreshed-clauses v strip r p =
     subst (λ (o : Done). RefreshedClauses v o) (sym (seen-injective r (refreshedOf v strip) p))
     (upstream.refreshed-clauses v strip)
+
+-- the cached pass tells 1 exactly where every lane is in the window and attached, and every byte that it reads is 0
+pub cached-yes-exactly :
+    (v : View) (strip : List ℕ) (r : Done) → CachedPromise v strip r → detachChecks v strip ≡ Verdict.Passes →
+    (r .answer ≡ Answer.Accepted 1) ↔ AllCleared strip (v .window) (v .attached) 0 (v .height)
+cached-yes-exactly v strip r p c =
+    subst (λ (o : Done). (o .answer ≡ Answer.Accepted 1) ↔ AllCleared strip (v .window) (v .attached) 0 (v .height))
+    (sym (seen-injective r (cachedOf v strip) p)) (yes.cached-yes-exactly v strip c)
+
+-- the refreshed pass tells 1 exactly where no lane below the height is in the window
+pub refreshed-yes-exactly :
+    (v : View) (strip : List ℕ) (r : Done) → RefreshedPromise v strip r → refreshedChecks v strip ≡ Verdict.Passes →
+    (r .answer ≡ Answer.Accepted 1) ↔ NoneBelow (v .window) (v .height)
+refreshed-yes-exactly v strip r p c =
+    subst (λ (o : Done). (o .answer ≡ Answer.Accepted 1) ↔ NoneBelow (v .window) (v .height))
+    (sym (seen-injective r (refreshedOf v strip) p)) (yes.refreshed-yes-exactly v strip c)
 
 module _ (v : View) (strip : List ℕ) (lent : ℕ) (r : Done) (p : DetachPromise v strip lent r) where
   is : r ≡ detachOf v strip lent
@@ -68,6 +85,12 @@ module _ (v : View) (strip : List ℕ) (lent : ℕ) (r : Done) (p : DetachPromis
   out-of-rounds n =
       so (λ (o : Done). o .answer ≡ Answer.Budget n → (n ≡ lent) × (lent < length strip / 2 + 2))
       (live.out-of-rounds v strip lent n)
+
+  -- 25 exactly where fewer rounds were lent than the detach needs
+  pub budget-exactly : ((n : ℕ) × (r .answer ≡ Answer.Budget n)) ↔ (lent < roundsNeeded v strip)
+  budget-exactly =
+      so (λ (o : Done). ((n : ℕ) × (o .answer ≡ Answer.Budget n)) ↔ (lent < roundsNeeded v strip))
+      (live.budget-exactly v strip lent)
 
   -- retired exactly where it was accepted
   pub retired-exactly :

@@ -1,7 +1,8 @@
 -- The refusal, or else the pass.
-use mathlib.Core.Path.{sym, _∙_}
+use mathlib.Core.Path.{sym, ap, _∙_}
 use borrow.Author.Needs.{needs}
-use Rattle.lanes.proofs.Calling.{cached-refused, cached-passed}
+use Rattle.lane_rules.specs.Calls.{passed, cachedOf}
+use Rattle.lanes.specs.Promises.{seen}
 use Rattle.lanes.proofs.cached_detach.Statement.{statement}
 use Rattle.lanes.proofs.cached_detach.Tie as tie
 
@@ -21,14 +22,15 @@ after-pass-requires : tie.Need-after-pass-requires
 after-pass-requires c κs = search needs
 
 returns : tie.Need-returns
-returns c = cached-refused _ _ _ (sym (c .before .before .before .detach-checks .ensures) ∙ c .before .answer .given .1)
+unfolding cachedOf
+returns c = rw (sym (c .before .before .before .detach-checks .ensures) ∙ c .before .answer .given .1)
 
 returns-2 : tie.Need-returns-2
+unfolding cachedOf
 returns-2 c =
-    let at = c .before in
     let passes = sym (c .before .before .before .before .detach-checks .ensures) ∙ c .before .before .enum-told .given .1 in
-    cached-passed _ _ (c .after-pass .result) (at .cached-pass .result) passes (c .after-pass .ensures)
-    (at .cached-pass .ensures)
+    let view = c .before .before .before .before .before .before .before .args .view in
+    rw passes (ap seen (c .after-pass .ensures ∙ ap (passed view) (c .before .cached-pass .ensures)))
 
 pub cached-detach-spec : {M : Type 1} → statement M
 cached-detach-spec =

@@ -1,8 +1,9 @@
 -- The refusal, or else the passes and rounds.
-use mathlib.Core.Path.{sym, _∙_}
+use mathlib.Core.Path.{sym, ap, _∙_}
 use borrow.Author.Needs.{needs}
 use Rattle.lanes.proofs.Checking.{height-most}
-use Rattle.lanes.proofs.Calling.{detach-refused, detach-passed}
+use Rattle.lane_rules.specs.Calls.{ended, detachOf}
+use Rattle.lanes.specs.Promises.{seen}
 use Rattle.lanes.proofs.detach_before_retire.Statement.{statement}
 use Rattle.lanes.proofs.detach_before_retire.Tie as tie
 
@@ -22,13 +23,15 @@ after-detach-requires : tie.Need-after-detach-requires
 after-detach-requires c κs = search needs
 
 returns : tie.Need-returns
-returns c = detach-refused _ _ _ _ (sym (c .before .before .before .detach-checks .ensures) ∙ c .before .answer .given .1)
+unfolding detachOf
+returns c = rw (sym (c .before .before .before .detach-checks .ensures) ∙ c .before .answer .given .1)
 
 returns-2 : tie.Need-returns-2
+unfolding detachOf
 returns-2 c =
-    let at = c .before in
     let passes = sym (c .before .before .before .before .detach-checks .ensures) ∙ c .before .before .enum-told .given .1 in
-    detach-passed _ _ _ (c .after-detach .result) (at .detach .result) passes (c .after-detach .ensures) (at .detach .ensures)
+    let view = c .before .before .before .before .before .before .before .args .view in
+    rw passes (ap seen (c .after-detach .ensures ∙ ap (ended view) (c .before .detach .ensures)))
 
 pub detach-before-retire-spec : {M : Type 1} → statement M
 detach-before-retire-spec =

@@ -1,7 +1,8 @@
 -- The refusal, or else the pass.
-use mathlib.Core.Path.{sym, _∙_}
+use mathlib.Core.Path.{sym, ap, _∙_}
 use borrow.Author.Needs.{needs}
-use Rattle.lanes.proofs.Calling.{refreshed-refused, refreshed-passed}
+use Rattle.lane_rules.specs.Calls.{passed, refreshedOf}
+use Rattle.lanes.specs.Promises.{seen}
 use Rattle.lanes.proofs.refreshed_detach.Statement.{statement}
 use Rattle.lanes.proofs.refreshed_detach.Tie as tie
 
@@ -21,14 +22,15 @@ after-pass-requires : tie.Need-after-pass-requires
 after-pass-requires c κs = search needs
 
 returns : tie.Need-returns
-returns c = refreshed-refused _ _ _ (sym (c .before .before .before .refreshed-checks .ensures) ∙ c .before .answer .given .1)
+unfolding refreshedOf
+returns c = rw (sym (c .before .before .before .refreshed-checks .ensures) ∙ c .before .answer .given .1)
 
 returns-2 : tie.Need-returns-2
+unfolding refreshedOf
 returns-2 c =
-    let at = c .before in
     let passes = sym (c .before .before .before .before .refreshed-checks .ensures) ∙ c .before .before .enum-told .given .1 in
-    refreshed-passed _ _ (c .after-pass .result) (at .refreshed-pass .result) passes (c .after-pass .ensures)
-    (at .refreshed-pass .ensures)
+    let view = c .before .before .before .before .before .before .before .args .view in
+    rw passes (ap seen (c .after-pass .ensures ∙ ap (passed view) (c .before .refreshed-pass .ensures)))
 
 pub refreshed-detach-spec : {M : Type 1} → statement M
 refreshed-detach-spec =
