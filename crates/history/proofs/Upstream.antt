@@ -6,6 +6,7 @@ use mathlib.Core.List.{List, []}
 use mathlib.Core.Bool.{true, false, cond, not, _&&_, _||_}
 use mathlib.Core.Logic.{⊎-elim}
 use lib.ListN.{length, length-map}
+use Rattle.lent_lists.specs.Written.{written}
 use Rattle.rules.specs.declared.Posting.{Posting}
 use Rattle.rules.specs.declared.Change.{Change}
 use Rattle.rules.specs.declared.Head.{Head}
@@ -17,7 +18,7 @@ use Rattle.rules.specs.Orders.{Numbered, destinations, sources, postingsOf, num
 use Rattle.rules.specs.Answers.{isAccepted, poisons}
 use Rattle.rules.specs.Checks.{Call, changesOf, prepareChecks, rollbackChecks, removalChecks}
 use Rattle.rules.specs.Publication.{Stage, rolledBack}
-use Rattle.rules.specs.Calls.{Outcome, asBefore, decided, shown, written, prepared, prepareOf, rollbackOf, removalOf}
+use Rattle.rules.specs.Calls.{Outcome, asBefore, decided, shown, prepared, prepareOf, rollbackOf, removalOf}
 use Rattle.laws.specs.Words.{isRefusal, added, takenAway, RemovedOnly, Stable, isUnchanged}
 use Rattle.booleans.proofs.Tests.{clash}
 use Rattle.laws.proofs.Flat.{postings-laid-out}

@@ -7,6 +7,7 @@ use mathlib.Core.Bool.{Bool, true, not, _&&_, _||_}
 use mathlib.Core.Logic.{_⊎_}
 use lib.ListN.{length}
 use Rattle.strips.specs.Strips.{byteAt}
+use Rattle.lent_lists.specs.Written.{written}
 use Rattle.rules.specs.declared.Posting.{Posting}
 use Rattle.rules.specs.declared.Head.{Head}
 use Rattle.rules.specs.declared.Answer.{Answer}
@@ -15,7 +16,7 @@ use Rattle.rules.specs.Postings.{present, ascending, counted}
 use Rattle.rules.specs.Table.{capacity, postings, laidOut}
 use Rattle.rules.specs.Orders.{Numbered, destinations, sources, postingsOf, numbersOf, recorded}
 use Rattle.rules.specs.Checks.{Call, changesOf, prepareChecks, rollbackChecks, removalChecks, publishChecks, countChecks}
-use Rattle.rules.specs.Calls.{Outcome, written}
+use Rattle.rules.specs.Calls.{Outcome}
 use Rattle.laws.specs.Words.{numberAt, Quiet, Noisy}
 
 -- no check 1 to 9 applies, there is room for all destinations, and every byte that is read is 0

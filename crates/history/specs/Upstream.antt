@@ -5,6 +5,7 @@ use mathlib.Core.Path.{_≡_}
 use mathlib.Core.List.{List, []}
 use mathlib.Core.Bool.{true, false, not, _&&_, _||_}
 use lib.ListN.{length, getD, take}
+use Rattle.lent_lists.specs.Written.{written}
 use Rattle.rules.specs.declared.Posting.{Posting}
 use Rattle.rules.specs.declared.Head.{Head}
 use Rattle.rules.specs.declared.Answer.{Answer}
@@ -15,7 +16,7 @@ use Rattle.rules.specs.Table.{postings}
 use Rattle.rules.specs.Orders.{guards, destinations, sources, postingsOf, numbersOf, noChange, recorded}
 use Rattle.rules.specs.Answers.{isAccepted, poisons}
 use Rattle.rules.specs.Checks.{Call, changesOf, guarded, recordable, among, recordFrom}
-use Rattle.rules.specs.Calls.{Outcome, asBefore, written}
+use Rattle.rules.specs.Calls.{Outcome, asBefore}
 use Rattle.laws.specs.Words.{nowhere, RemovedOnly, Stable, rising, isRefusal}
 use Rattle.laws.specs.Names.{Apart, Repeated}
 

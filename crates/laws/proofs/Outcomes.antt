@@ -6,6 +6,7 @@ use mathlib.Core.List.{List, [], reverse}
 use mathlib.Core.Bool.{true, false, cond}
 use mathlib.Core.Logic.{_⊎_, ⊎-elim}
 use lib.ListN.{length}
+use Rattle.lent_lists.specs.Written.{written}
 use Rattle.rules.specs.declared.Posting.{Posting}
 use Rattle.rules.specs.declared.Head.{Head}
 use Rattle.rules.specs.declared.Answer.{Answer}
@@ -15,7 +16,7 @@ use Rattle.rules.specs.Orders.{Numbered, destinations, sources, numbersOf, reco
 use Rattle.rules.specs.Answers.{isAccepted, poisons}
 use Rattle.rules.specs.Checks.{Call, changesOf, prepareChecks, rollbackChecks, removalChecks, publishChecks}
 use Rattle.rules.specs.Publication.{Undone, undoing, Stage, removing, rolledBack, thenSources}
-use Rattle.rules.specs.Calls.{headWith, Outcome, asBefore, decided, shown, written, recordAfter, prepared, prepareOf, rollbackOf, removalOf, publishOf}
+use Rattle.rules.specs.Calls.{headWith, Outcome, asBefore, decided, shown, recordAfter, prepared, prepareOf, rollbackOf, removalOf, publishOf}
 use Rattle.laws.specs.Words.{added, takenAway}
 use Rattle.laws.proofs.Flat.{well-formed-parts, used-postings, laid-out-same}
 use Rattle.laws.proofs.Undo.{UndoClean, UndoFailed, undo-runs}

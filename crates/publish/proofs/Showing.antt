@@ -6,6 +6,7 @@ use mathlib.Core.List.{List, [], _∷_}
 use mathlib.Core.Bool.{Bool, true, false, cond, _&&_}
 use lib.ListN.{length}
 use lib.Dec.{eqb}
+use Rattle.lent_lists.specs.Written.{written}
 use Rattle.rules.specs.declared.Answer.{Answer}
 use Rattle.rules.specs.declared.Head.{Head}
 use Rattle.rules.specs.declared.Posting.{Posting}
@@ -15,7 +16,7 @@ use Rattle.rules.specs.Table.{postings, laidOut, wellFormed}
 use Rattle.rules.specs.Orders.{Numbered, numbersOf}
 use Rattle.rules.specs.Answers.{isAccepted, poisons, settled}
 use Rattle.rules.specs.Publication.{Undone, Stage, removing, rolledBack, thenSources}
-use Rattle.rules.specs.Calls.{headWith, shown, written, recordAfter}
+use Rattle.rules.specs.Calls.{headWith, shown, recordAfter}
 use Rattle.booleans.proofs.Tests.{by-cases}
 use Rattle.laws.proofs.Flat.{well-formed-parts}
 use Rattle.table.specs.Holding.{Carries}

@@ -1,8 +1,9 @@
 -- The public calls: what each answers, and the table, head and record list that it leaves.
 use Prim.Native.Nat.{ℕ}
-use mathlib.Core.List.{List, [], _++_, reverse}
+use mathlib.Core.List.{List, [], reverse}
 use mathlib.Core.Bool.{cond}
-use lib.ListN.{length, drop}
+use lib.ListN.{length}
+use Rattle.lent_lists.specs.Written.{written}
 use Rattle.rules.specs.declared.Posting.{Posting}
 use Rattle.rules.specs.declared.Head.{Head}
 use Rattle.rules.specs.declared.Answer.{Answer}
@@ -48,11 +49,7 @@ shown head table list s =
       recordList = list;
     }
 
--- the record in the first places of its list; places past it stay
-abbrev pub written : List ℕ → List ℕ → List ℕ
-written ns list = ns ++ drop (length ns) list
-
--- the record is written only after the last insertion
+-- the record is written only after the last insertion, in the first places of its list; places past it stay
 abbrev pub recordAfter : Stage → List Numbered → List ℕ → List ℕ
 recordAfter prepared ds list = cond (isAccepted (prepared .answer)) (written (numbersOf ds) list) list
 

@@ -1,15 +1,14 @@
 -- The record: the turns of the walk that writes it.
-use Prim.Native.Nat.{ℕ, suc, _+_, _<_, _≤_}
+use Prim.Native.Nat.{ℕ, _+_, _<_, _≤_}
 use native.Mathlib.Omega.{arith}
-use native.Mathlib.Numerals.{add-one}
 use mathlib.Core.Path.{_≡_, refl, sym, ap, _∙_}
-use mathlib.Core.List.{List, _∷_, _++_}
+use mathlib.Core.List.{List, _++_}
 use lib.ListN.{length, take, drop, set, getD, length-set, take-append-drop}
-use lib.Seq.{take-suc-set, drop-set-lt, drop-drop, append-snoc}
+use Rattle.lent_lists.specs.Written.{written}
+use Rattle.lent_lists.proofs.Writing.{written-more}
 use Rattle.rules.specs.declared.Change.{Change}
 use Rattle.rules.specs.declared.Key.{Key}
 use Rattle.rules.specs.Orders.{Numbered, named, numbersOf, destinationOf, destinationsFrom, noChange}
-use Rattle.rules.specs.Calls.{written}
 use Rattle.changes.proofs.Walk.{destinations-left, destinations-none}
 
 -- a record that is written up to a place, for the changes before i
@@ -23,18 +22,6 @@ pub record Recording (cs : List Change) (list₀ list : List ℕ) (place i : ℕ
 
 pub record-start : (cs : List Change) (list : List ℕ) → Recording cs list list 0 0
 record-start cs list = record { low = omega arith; few = omega arith; len = refl; is = refl }
-
--- one number more
-written-more :
-    (n : ℕ) (ns list : List ℕ) (place : ℕ) → place < length list →
-    take place list ++ written (n ∷ ns) (drop place list) ≡
-    take (place + 1) (set list place n) ++ written ns (drop (place + 1) (set list place n))
-written-more n ns list place h =
-    let rest : drop (suc (length ns)) (drop place list) ≡ drop (length ns) (drop (suc place) list) =
-    (let e : place + suc (length ns) ≡ suc place + length ns = omega arith in
-    drop-drop (suc (length ns)) place list ∙ rw e (sym (drop-drop (length ns) (suc place) list))) in
-    rw (add-one place, take-suc-set list place n h, drop-set-lt (suc place) list place n (omega arith), rest)
-    (sym (append-snoc (take place list) n (ns ++ drop (length ns) (drop (suc place) list))))
 
 module _ {cs : List Change} {list₀ list : List ℕ} {place i : ℕ} (z : Recording cs list₀ list place i) where
   pub record-end : length cs ≤ i → list ≡ written (numbersOf (destinationsFrom 0 cs)) list₀

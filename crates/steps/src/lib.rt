@@ -17,6 +17,7 @@ ghost use mathlib.Core.Bool.{true};
 ghost use mathlib.Core.List.{[], reverse};
 ghost use lib.ListN.{length, getD};
 ghost use lib.Dec.{ltb};
+ghost use Rattle.lent_lists.specs.Written.{written};
 ghost use Rattle.rules.specs.declared.Verdict.{Verdict};
 ghost use Rattle.rules.specs.Limits.{mostChanges};
 ghost use Rattle.rules.specs.Postings.{every};
@@ -24,7 +25,6 @@ ghost use Rattle.rules.specs.Table.{capacity, postings};
 ghost use Rattle.rules.specs.Orders.{changes, destinations, sources, numbersOf, recorded, noChange};
 ghost use Rattle.rules.specs.Storage.{insertion, removal};
 ghost use Rattle.rules.specs.Publication.{undoing, notInserted, preparing, removing};
-ghost use Rattle.rules.specs.Calls.{written};
 ghost use Rattle.table.specs.Holding.{Ordered};
 ghost use Rattle.steps.specs.Leaving.{InsertionIn, blamedOn, RemovalIn, UndoneIn, OneUndone, StageIn, backward, inOrder};
 

@@ -1,0 +1,1 @@
+// A list of numbers that a caller lends for writing: what is written stands at its front, and later places stay. No code.
