@@ -1,0 +1,1 @@
+// Theorems about the bucket rules. No code.

@@ -1,0 +1,7 @@
+-- The bucket rules, in the order in which a reader takes them.
+pub mod Answers
+pub mod Buckets
+pub mod Calls
+pub mod Stamps
+pub mod Trial
+pub mod Examples
