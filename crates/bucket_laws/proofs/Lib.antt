@@ -1,1 +1,3 @@
 -- The laws of the bucket rules.
+pub mod Choosing
+pub mod Marks
