@@ -39,6 +39,16 @@ or-right false b h = h
 pub neither : (a b : Bool) → a ≡ false → b ≡ false → (a || b) ≡ false
 neither a b p q = rw (p, q)
 
+-- a true choice of two tests comes of one of them
+pub or-cases : (a b : Bool) → (a || b) ≡ true → (a ≡ true) ⊎ (b ≡ true)
+or-cases true b h = inl refl
+or-cases false b h = inr h
+
+-- a true second test makes the choice true
+pub or-second : (a b : Bool) → b ≡ true → (a || b) ≡ true
+or-second true b h = refl
+or-second false b h = h
+
 -- two tests that imply each other are equal
 pub equal-tests : (a b : Bool) → (a ≡ true → b ≡ true) → (b ≡ true → a ≡ true) → a ≡ b
 equal-tests true true f g = refl

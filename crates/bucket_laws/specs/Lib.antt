@@ -1,1 +1,2 @@
 -- What the theorems say of the bucket rules.
+pub mod Clauses

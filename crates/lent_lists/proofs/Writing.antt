@@ -6,7 +6,7 @@ use native.Mathlib.Numerals.{add-one}
 use mathlib.Core.Path.{_≡_, sym, _∙_}
 use mathlib.Core.List.{List, [], _∷_, _++_}
 use lib.ListN.{length, take, drop, set, length-append, length-drop}
-use lib.Seq.{take-suc-set, drop-set-lt, drop-drop, append-snoc, sets, sets-eq}
+use lib.Seq.{take-suc-set, drop-set-lt, drop-drop, append-snoc, take-append-seam, drop-append-seam, sets, sets-eq}
 use Rattle.lent_lists.specs.Written.{written}
 
 -- one number more
@@ -36,3 +36,11 @@ sets-written ns list h = rw zero-add at (sets-eq ns list 0 (omega arith))
 pub length-written : (ns list : List ℕ) → length ns ≤ length list → length (written ns list) ≡ length list
 length-written ns list h =
     let a = length-append ns (drop (length ns) list) in let b = length-drop (length ns) list in omega arith
+
+-- the front of a written list is what was written
+pub written-front : (ns list : List ℕ) → take (length ns) (written ns list) ≡ ns
+written-front ns list = take-append-seam ns (drop (length ns) list)
+
+-- and the places behind it stay
+pub written-later : (ns list : List ℕ) → drop (length ns) (written ns list) ≡ drop (length ns) list
+written-later ns list = drop-append-seam ns (drop (length ns) list)
