@@ -1,0 +1,3 @@
+-- The laws of the checks and of the work, one outcome for each call, and what is guaranteed of their results.
+pub mod Checking
+pub mod Working

@@ -1,0 +1,2 @@
+-- The promises of the bucket calls.
+pub mod Promises
