@@ -1,3 +1,5 @@
 -- The laws of the checks and of the work, one outcome for each call, and what is guaranteed of their results.
 pub mod Checking
 pub mod Working
+pub mod Outcomes
+pub mod Guarantees
