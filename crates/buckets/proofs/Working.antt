@@ -33,19 +33,26 @@ module _ (input : List ℕ) (count : ℕ) (output : List ℕ) where
     unfolding sortOf answerOf
     accepted = rw p
 
-    holds : WithinLimits input count × OutputRoom input count output × InRange input count × (length (distinct input count) ≡ length (distinct input count))
-    holds = sort-accepted-exactly input count output (length (distinct input count)) .0 accepted
+    -- so the conditions of success hold
+    within : WithinLimits input count
+    within = sort-accepted-exactly input count output (length (distinct input count)) .0 accepted .0
+
+    room : OutputRoom input count output
+    room = sort-accepted-exactly input count output (length (distinct input count)) .0 accepted .1
+
+    range : InRange input count
+    range = sort-accepted-exactly input count output (length (distinct input count)) .0 accepted .2
 
     same : gathered [] input ≡ distinct input count
-    same = gathered-distinct input count (holds .2)
+    same = gathered-distinct input count range
 
     -- there is room
     pub sort-room : length (gathered [] input) ≤ length output
-    sort-room = rw same (distinct-fits input count output (holds .1))
+    sort-room = rw same (distinct-fits input count output room)
 
     -- for a number of elements that is small
     pub sort-few : length (gathered [] input) ≤ mostInput
-    sort-few = rw same (let few = length-distinct input count in let most = holds .0 .0 in omega arith)
+    sort-few = rw same (let few = length-distinct input count in let most = within .0 in omega arith)
 
     -- and what is gathered is what the rules say
     pub sort-passed :
@@ -68,21 +75,26 @@ module _ (input : List ℕ) (count : ℕ) (output scratch : List ℕ) where
     unfolding bitmapOf answerOf
     bitmap-accepted = rw p
 
-    bitmap-holds :
-        WithinLimits input count × BitmapRoom input count output scratch × InRange input count
-        × (length (distinct input count) ≡ length (distinct input count))
-    bitmap-holds = bitmap-accepted-exactly input count output scratch (length (distinct input count)) .0 bitmap-accepted
+    -- so the conditions of success hold
+    bitmap-within : WithinLimits input count
+    bitmap-within = bitmap-accepted-exactly input count output scratch (length (distinct input count)) .0 bitmap-accepted .0
+
+    bitmap-lent : BitmapRoom input count output scratch
+    bitmap-lent = bitmap-accepted-exactly input count output scratch (length (distinct input count)) .0 bitmap-accepted .1
+
+    bitmap-range : InRange input count
+    bitmap-range = bitmap-accepted-exactly input count output scratch (length (distinct input count)) .0 bitmap-accepted .2
 
     -- there is room, in the scratch and in the output
     pub bitmap-room : Holds input count (length scratch) × (length (distinct input count) ≤ length output)
     bitmap-room = (
-      record { inRange = bitmap-holds .2; most = bitmap-holds .0 .1; reach = bitmap-holds .1 .1 },
-      distinct-fits input count output (bitmap-holds .1 .0),
+      record { inRange = bitmap-range; most = bitmap-within .1; reach = bitmap-lent .1 },
+      distinct-fits input count output (bitmap-lent .0),
     )
 
     -- for a number of elements that is small
     pub bitmap-few : length (distinct input count) ≤ mostInput
-    bitmap-few = let few = length-distinct input count in let most = bitmap-holds .0 .0 in omega arith
+    bitmap-few = let few = length-distinct input count in let most = bitmap-within .0 in omega arith
 
     -- and what is written is what the rules say
     pub bitmap-passed :

@@ -16,10 +16,18 @@ enum-told : tie.Need-enum-told
 enum-told c = search needs
 
 spread-requires : tie.Need-spread-requires
-spread-requires c κs = bitmap-room (c .before .before .before .before .before .before .before .before .before .before .args .input .now) (c .before .before .before .before .before .before .before .before .before .before .args .count) (c .before .before .before .before .before .before .before .before .before .before .args .output .now) (c .before .before .before .before .before .before .before .before .before .before .args .scratch .now) (sym (c .before .before .before .before .bitmap-checks .ensures) ∙ c .before .before .enum-told .given .1)
+spread-requires c κs =
+    let start = c .before .before .before .before .before .before .before .before .before .before in
+    let passes = sym (c .before .before .before .before .bitmap-checks .ensures) ∙ c .before .before .enum-told .given .1 in
+    bitmap-room (start .args .input .now) (start .args .count) (start .args .output .now) (start .args .scratch .now) passes
 
 cast-t17 : tie.Need-cast-t17
-cast-t17 c = let few = bitmap-few (c .before .before .before .before .before .before .before .before .before .before .before .before .before .before .before .args .input .now) (c .before .before .before .before .before .before .before .before .before .before .before .before .before .before .before .args .count) (c .before .before .before .before .before .before .before .before .before .before .before .before .before .before .before .args .output .now) (c .before .before .before .before .before .before .before .before .before .before .before .before .before .before .before .args .scratch .now) (sym (c .before .before .before .before .before .before .before .before .before .bitmap-checks .ensures) ∙ c .before .before .before .before .before .before .before .enum-told .given .1) in let count = c .before .before .before .before .spread .ensures .0 in search needs
+cast-t17 c =
+    let start = c .before .before .before .before .before .before .before .before .before .before .before .before .before .before .before in
+    let passes = sym (c .before .before .before .before .before .before .before .before .before .bitmap-checks .ensures) ∙ c .before .before .before .before .before .before .before .enum-told .given .1 in
+    let few = bitmap-few (start .args .input .now) (start .args .count) (start .args .output .now) (start .args .scratch .now) passes in
+    let count = c .before .before .before .before .spread .ensures .0 in
+    search needs
 
 same-length : tie.Need-same-length
 same-length c = search needs
@@ -28,7 +36,10 @@ same-length-2 : tie.Need-same-length-2
 same-length-2 c = search needs
 
 returns : tie.Need-returns
-returns c = ap seen (bitmap-refused (c .before .before .before .before .before .before .before .before .before .args .input .now) (c .before .before .before .before .before .before .before .before .before .args .count) (c .before .before .before .before .before .before .before .before .before .args .output .now) (c .before .before .before .before .before .before .before .before .before .args .scratch .now) _ (sym (c .before .before .before .bitmap-checks .ensures) ∙ c .before .answer .given .1))
+returns c =
+    let start = c .before .before .before .before .before .before .before .before .before in
+    let refused = sym (c .before .before .before .bitmap-checks .ensures) ∙ c .before .answer .given .1 in
+    ap seen (bitmap-refused (start .args .input .now) (start .args .count) (start .args .output .now) (start .args .scratch .now) _ refused)
 
 same-length-3 : tie.Need-same-length-3
 same-length-3 c = search needs
@@ -37,7 +48,13 @@ same-length-4 : tie.Need-same-length-4
 same-length-4 c = search needs
 
 returns-2 : tie.Need-returns-2
-returns-2 c = ap seen (bitmap-passed (c .before .before .before .before .before .before .before .before .before .before .before .before .before .before .before .args .input .now) (c .before .before .before .before .before .before .before .before .before .before .before .before .before .before .before .args .count) (c .before .before .before .before .before .before .before .before .before .before .before .before .before .before .before .args .output .now) (c .before .before .before .before .before .before .before .before .before .before .before .before .before .before .before .args .scratch .now) (sym (c .before .before .before .before .before .before .before .before .before .bitmap-checks .ensures) ∙ c .before .before .before .before .before .before .before .enum-told .given .1) (c .before .before .before .before .spread .ensures .0) (c .before .before .before .before .spread .ensures .1 .0) (c .before .before .before .before .spread .ensures .1 .1))
+returns-2 c =
+    let start = c .before .before .before .before .before .before .before .before .before .before .before .before .before .before .before in
+    let passes = sym (c .before .before .before .before .before .before .before .before .before .bitmap-checks .ensures) ∙ c .before .before .before .before .before .before .before .enum-told .given .1 in
+    let work = c .before .before .before .before .spread .ensures in
+    ap seen
+    (bitmap-passed (start .args .input .now) (start .args .count) (start .args .output .now) (start .args .scratch .now) passes (work .0)
+    (work .1 .0) (work .1 .1))
 
 pub canonical-buckets-bitmap-spec : {M : Type 1} → statement M
 canonical-buckets-bitmap-spec =

@@ -18,7 +18,9 @@ range-check-requires : tie.Need-range-check-requires
 range-check-requires c κs = search needs
 
 returns-3 : tie.Need-returns-3
-returns-3 c = c .range-check .ensures ∙ checks-range _ _ (sym (c .before .before .before .over-limits .ensures) ∙ c .before .before .if1 .left) _ (c .before .if2 .left)
+returns-3 c =
+    c .range-check .ensures ∙ checks-range _ _ (sym (c .before .before .before .over-limits .ensures)
+    ∙ c .before .before .if1 .left) _ (c .before .if2 .left)
 
 pub check-spec : {M : Type 1} → statement M
 check-spec =

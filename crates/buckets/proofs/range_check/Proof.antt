@@ -25,7 +25,8 @@ shared-slice-read-element : tie.Need-shared-slice-read-element Inv-loop μ-loop
 shared-slice-read-element c = search needs
 
 returns : tie.Need-returns Inv-loop μ-loop
-returns c = sym (c .before .before .before .loop .inv .1 ∙ range-bad _ _ _ (c .before .before .loop-test .taken) (c .if1 .taken))
+returns c =
+    sym (c .before .before .before .loop .inv .1 ∙ range-bad _ _ _ (c .before .before .loop-test .taken) (c .if1 .taken))
 
 add-i : tie.Need-add-i Inv-loop μ-loop
 add-i c = search needs
@@ -34,7 +35,11 @@ loop-less : tie.Need-loop-less Inv-loop μ-loop
 loop-less c = search needs
 
 loop-again : tie.Need-loop-again Inv-loop μ-loop
-loop-again c = (omega arith, c .before .before .before .loop .inv .1 ∙ range-good _ _ _ (c .before .before .loop-test .taken) (c .if1 .left))
+loop-again c = (
+  omega arith,
+  c .before .before .before .loop .inv .1 ∙ range-good _ _ _ (c .before .before .loop-test .taken)
+      (c .if1 .left),
+)
 
 returns-2 : tie.Need-returns-2 Inv-loop μ-loop
 returns-2 c = sym (c .before .loop .inv .1 ∙ range-end _ _ _ (c .loop-test .left))
