@@ -1,1 +1,1 @@
-// Cases on a test, and the few truths of Booleans that the laws of postings and of lanes share. No code.
+// Cases on a test, and the few truths of Booleans that the laws of postings, of lanes and of buckets share. No code.

@@ -1,2 +1,3 @@
--- The laws of writing.
+-- The laws of writing, and of making room.
 pub mod Writing
+pub mod Raising

@@ -1,2 +1,3 @@
--- What is left in a list that was lent for writing.
+-- What a lent list holds: after numbers were written at its front, and after some have gone up to make room.
 pub mod Written
+pub mod Raised

@@ -282,6 +282,18 @@ lanes-below m h f = same-lanes (lanesBelow m h) m m (lt-of-le-of-lt (below-less 
     lanes : (l : ℕ) → l < m → laneIn (lanesBelow m h) l ≡ laneIn m l
     lanes l lt = lane-below m h l ∙ go l (laneIn m l) refl
 
+-- a mask with one lane more stays below 2 ^ 32
+pub entered-small : (m l : ℕ) → m < 2 ^ mostLanes → l < mostLanes → entered m l < 2 ^ mostLanes
+entered-small m l small less = below-bound (entered m l) mostLanes (lanes-below (entered m l) mostLanes under)
+  where
+    under : (k : ℕ) → laneIn (entered m l) k ≡ true → k < mostLanes
+    under k i = go (eqb k l) refl
+      where
+        go : (t : Bool) → eqb k l ≡ t → k < mostLanes
+        go true e = let here = eqb-true k l e in omega arith
+        go false e =
+            below-lanes m mostLanes k (bound-below m mostLanes small) (sym (entered-other m l k (eqb-false k l e)) ∙ i)
+
 -- within, of the lanes below a height: one lane after the other
 within-lane-below : (h a b l : ℕ) → withinBelow h a b ≡ true → l < h → laneIn a l ≡ true → laneIn b l ≡ true
 unfolding withinBelow

@@ -6,6 +6,7 @@ use mathlib.Core.List.{List, _∷_, _++_}
 use mathlib.Core.Bool.{true}
 use lib.ListN.{length, take, drop, length-append, length-drop}
 use lib.Seq.{length-take-le}
+use Rattle.lent_lists.specs.Raised.{raised}
 use Rattle.rules.specs.declared.Head.{Head}
 use Rattle.rules.specs.declared.Posting.{Posting}
 use Rattle.rules.specs.Postings.{ascending, inserted, removed}
@@ -15,7 +16,7 @@ use Rattle.laws.proofs.Sorted.{ascending-inserted, ascending-removed}
 use Rattle.laws.proofs.Flat.{well-formed-parts, used-postings, laid-out-same, postings-laid-out, length-laid-out}
 use Rattle.table.specs.declared.Place.{Place}
 use Rattle.table.specs.Holding.{Carries, Ordered, placeOf, blank}
-use Rattle.table.specs.Shifts.{stored, raised, lowered}
+use Rattle.table.specs.Shifts.{stored, lowered}
 use Rattle.table.proofs.Places.{gap-most, at-inside, gap-absent, inserted-in-gap, inserted-found, removed-found, removed-from-gap}
 use Rattle.table.proofs.Moves.{opened, closed}
 
@@ -61,7 +62,7 @@ module _ (t : List ℕ) (used : ℕ) (p : Posting) (at : ℕ) (h : Ordered t use
 
   pub inserted-carries :
       (x y : List ℕ) → placeOf p (postings used t) ≡ Place.Gap at → used * 3 + 3 ≤ length t →
-      x ≡ raised (at * 3) (used * 3) t → y ≡ stored (at * 3) p x → Carries y (used + 1) (inserted p (postings used t))
+      x ≡ raised 3 (at * 3) (used * 3) t → y ≡ stored (at * 3) p x → Carries y (used + 1) (inserted p (postings used t))
   inserted-carries x y e room ex ey =
       let ps : List Posting = postings used t in
       let n : used ≡ length ps = h .count in
@@ -72,8 +73,8 @@ module _ (t : List ℕ) (used : ℕ) (p : Posting) (at : ℕ) (h : Ordered t use
       (ascending-inserted p ps (h .sorted))
       (ey
       ∙ (ap (stored (at * 3) p) ex
-      ∙ (ap (λ (l : List ℕ). stored (at * 3) p (raised (at * 3) (used * 3) l)) (h .laid)
-      ∙ (ap (λ (m : ℕ). stored (at * 3) p (raised (at * 3) (m * 3) (laidOut (length t) ps))) n
+      ∙ (ap (λ (l : List ℕ). stored (at * 3) p (raised 3 (at * 3) (used * 3) l)) (h .laid)
+      ∙ (ap (λ (m : ℕ). stored (at * 3) p (raised 3 (at * 3) (m * 3) (laidOut (length t) ps))) n
       ∙ (opened ps (length t) at p low (omega arith) ∙ ap (laidOut (length t)) (sym new))))))
 
   pub removed-carries :

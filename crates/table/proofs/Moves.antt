@@ -1,47 +1,18 @@
--- The numbers of a flat list as a place for one posting opens or closes: the turns of the two shifting walks, and what they make of
--- postings that are laid out.
+-- The numbers of a flat list as a place for one posting opens or closes: the turns of the walk that closes it, and what both walks
+-- make of postings that are laid out.
 use Prim.Native.Nat.{ℕ, zero, suc, _+_, _-_, _*_, _<_, _≤_}
 use native.Mathlib.Omega.{arith}
 use native.Mathlib.Numerals.{add-one}
 use mathlib.Core.Path.{_≡_, refl, sym, ap, _∙_}
 use mathlib.Core.List.{List, [], _∷_, _++_, append-assoc}
-use lib.ListN.{length, getD, take, drop, set, replicate, length-append, length-drop, length-replicate, take-append-drop, List·getD-append}
-use lib.Seq.{slice, slice-empty, slice-cons, length-slice, length-take-le, take-suc, append-snoc, set-at, getD-take, getD-append-add, getD-drop, drop-cons, drop-append-le, drop-append-add, drop-append-seam, take-append-add, take-append-seam, take-at, drop-at, drop-drop, sets-eq}
+use lib.ListN.{length, getD, take, drop, set, replicate, length-append, length-drop, length-replicate, take-append-drop}
+use lib.Seq.{slice, slice-empty, length-slice, length-take-le, take-suc, append-snoc, set-at, getD-append-add, getD-drop, drop-cons, drop-append-le, drop-append-add, drop-append-seam, take-append-add, take-append-seam, take-at, drop-at, drop-drop, sets-eq}
+use Rattle.lent_lists.specs.Raised.{raised}
 use Rattle.rules.specs.declared.Posting.{Posting}
 use Rattle.rules.specs.Table.{numbers, laidOut}
 use Rattle.laws.proofs.Flat.{length-numbers}
 use Rattle.table.specs.Holding.{blank}
-use Rattle.table.specs.Shifts.{stored, raised, lowered}
-
--- where the upper walk begins nothing has moved
-pub raised-none : (l : List ℕ) (to : ℕ) → l ≡ raised to to l
-raised-none l to = sym (rw slice-empty (take-append-drop (to + 3) l))
-
--- one number further up
-pub raised-turn :
-    (l x : List ℕ) (k to : ℕ) → x ≡ raised k to l → 0 < k → k ≤ to → to + 3 ≤ length l →
-    set x (k + 2) (getD x (k - 1) 0) ≡ raised (k - 1) to l
-raised-turn l x zero to e p h r = absurd (omega arith)
-raised-turn l x (suc k) to e p h r =
-    let one : suc k - 1 ≡ k = omega arith in
-    let four : suc k + 3 ≡ suc (k + 3) = omega arith in
-    let two : suc k + 2 ≡ k + 3 = omega arith in
-    let rest : List ℕ = slice (suc k) to l ++ drop (to + 3) l in
-    let long : length (take (k + 3) l) ≡ k + 3 = length-take-le (k + 3) l (omega arith) in
-    let whole : raised (suc k) to l ≡ take (k + 3) l ++ (getD l (k + 3) 0 ∷ rest) =
-    rw (four, take-suc l (k + 3) 0 (omega arith)) (append-snoc (take (k + 3) l) (getD l (k + 3) 0) rest) in
-    let same : getD x k 0 ≡ getD l k 0 =
-    ap (λ (y : List ℕ). getD y k 0) (e ∙ whole)
-    ∙ (List·getD-append (take (k + 3) l) (getD l (k + 3) 0 ∷ rest) 0 k (omega arith) ∙ getD-take (k + 3) l k 0 (omega arith)) in
-    rw (
-      one,
-      same,
-      e ∙ whole,
-      two,
-      set-at (take (k + 3) l) (getD l (k + 3) 0) rest (getD l k 0) (k + 3) long,
-      slice-cons k to l
-          0 (omega arith) (omega arith),
-    )
+use Rattle.table.specs.Shifts.{stored, lowered}
 
 slice-more : (f t : ℕ) (l : List ℕ) → f ≤ t → t < length l → slice f (suc t) l ≡ slice f t l ++ (getD l t 0 ∷ [])
 slice-more f t l h k =
@@ -115,7 +86,7 @@ over-middle a m b at la lm p =
 -- a list in parts, and the numbers from a place on raised by three
 raised-parts :
     (a b z : List ℕ) (from to : ℕ) → length a ≡ from → from + length b ≡ to →
-    raised from to (a ++ (b ++ z)) ≡ a ++ (take 3 (b ++ z) ++ (b ++ drop 3 z))
+    raised 3 from to (a ++ (b ++ z)) ≡ a ++ (take 3 (b ++ z) ++ (b ++ drop 3 z))
 raised-parts a b z from to la lb =
     let first : take (from + 3) (a ++ (b ++ z)) ≡ a ++ take 3 (b ++ z) = rw (← la) (take-append-add a (b ++ z) 3) in
     let reach : to ≡ length a + length b = omega arith in
@@ -164,7 +135,7 @@ module _ (ps : List Posting) (size at : ℕ) where
   -- the place opens, and a posting is stored there
   pub opened :
       (p : Posting) → at ≤ length ps → length ps * 3 + 3 ≤ size →
-      stored (at * 3) p (raised (at * 3) (length ps * 3) (laidOut size ps)) ≡ laidOut size (take at ps ++ p ∷ drop at ps)
+      stored (at * 3) p (raised 3 (at * 3) (length ps * 3) (laidOut size ps)) ≡ laidOut size (take at ps ++ p ∷ drop at ps)
   unfolding numbers
   opened p low room =
       let free : ℕ = size - length ps * 3 in
@@ -185,7 +156,7 @@ module _ (ps : List Posting) (size at : ℕ) where
       omega arith) in
       let left : size - length (take at ps ++ p ∷ drop at ps) * 3 ≡ free - 3 = omega arith in
       ap (stored (at * 3) p)
-      (ap (raised (at * 3) (length ps * 3)) (cut zeros)
+      (ap (raised 3 (at * 3) (length ps * 3)) (cut zeros)
       ∙ raised-parts (numbers (take at ps)) back zeros (at * 3) (length ps * 3) (front low) reach)
       ∙ (over-middle (numbers (take at ps)) (take 3 (back ++ zeros)) (back ++ drop 3 zeros) (at * 3) (front low)
       (length-three (back ++ zeros) (omega arith)) p

@@ -9,10 +9,6 @@ use Rattle.rules.specs.declared.Posting.{Posting}
 abbrev pub stored : ℕ → Posting → List ℕ → List ℕ
 stored at p l = set (set (set l at (p .binding)) (at + 1) (p .key)) (at + 2) (p .row)
 
--- the numbers between two places, three further
-abbrev pub raised : ℕ → ℕ → List ℕ → List ℕ
-raised from to l = take (from + 3) l ++ (slice from to l ++ drop (to + 3) l)
-
 -- the numbers between three past a place and another, three back
 abbrev pub lowered : ℕ → ℕ → List ℕ → List ℕ
 lowered from to l = take from l ++ (slice (from + 3) to l ++ drop (to - 3) l)

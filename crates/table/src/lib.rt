@@ -9,10 +9,11 @@ ghost use mathlib.Core.Path.{_≡_};
 ghost use mathlib.Core.Bool.{true, cond, _&&_};
 ghost use lib.ListN.{length, drop, getD};
 ghost use lib.Dec.{eqb};
+ghost use Rattle.lent_lists.specs.Raised.{raised};
 ghost use Rattle.rules.specs.Postings.{every, ranked, compared, isBefore, same, ascending, present, inserted, removed, counted, within};
 ghost use Rattle.rules.specs.Table.{cells, capacity, postings, wellFormed};
 ghost use Rattle.table.specs.Holding.{Carries, Ordered, blank, placeOf};
-ghost use Rattle.table.specs.Shifts.{raised, lowered, stored};
+ghost use Rattle.table.specs.Shifts.{lowered, stored};
 
 // The limits that the code tests: the rules' own numbers.
 pub const MOST_NUMBERS: usize = 12288;
@@ -203,7 +204,7 @@ pub fn stands(table: &[u32], used: usize, p: Posting) -> bool
 // The numbers from one place up to another go up by one posting; the three that they leave stay as they were.
 fn raise(table: &mut [u32], from: usize, to: usize)
     requires { ⌜ (from ≤ to) × (to + 3 ≤ length (now table)) ⌝ }
-    ensures { λ _. ⌜ now (table .exit) ≡ raised from to (now (table .entry)) ⌝ }
+    ensures { λ _. ⌜ now (table .exit) ≡ raised 3 from to (now (table .entry)) ⌝ }
 {
     let mut k = to;
     while k > from {

@@ -4,19 +4,19 @@ use native.Mathlib.Omega.{arith}
 use mathlib.Core.Path.{_≡_}
 use lib.ListN.{length, length-set}
 use borrow.Author.Needs.{needs}
-use Rattle.table.specs.Shifts.{raised}
-use Rattle.table.proofs.Moves.{raised-none, raised-turn}
+use Rattle.lent_lists.specs.Raised.{raised}
+use Rattle.lent_lists.proofs.Raising.{raised-none, raised-turn}
 use Rattle.table.proofs.raise.Statement.{statement}
 use Rattle.table.proofs.raise.Tie as tie
 
 abbrev Inv-loop : tie.InvT-loop
-Inv-loop table₀ from to k₀ table k = (from ≤ k) × ((k ≤ to) × ((length table ≡ length table₀) × (table ≡ raised k to table₀)))
+Inv-loop table₀ from to k₀ table k = (from ≤ k) × ((k ≤ to) × ((length table ≡ length table₀) × (table ≡ raised 3 k to table₀)))
 
 abbrev μ-loop : tie.MeasureT-loop
 μ-loop table₀ from to k₀ table k = k
 
 loop-holds : tie.Need-loop-holds Inv-loop μ-loop
-loop-holds c = (c .pre .0, (search needs, (search needs, raised-none (c .args .table .now) (c .args .to))))
+loop-holds c = (c .pre .0, (search needs, (search needs, raised-none 3 (c .args .table .now) (c .args .to))))
 
 sub-table : tie.Need-sub-table Inv-loop μ-loop
 sub-table c = search needs
@@ -50,7 +50,7 @@ loop-again c =
         omega arith,
         (
           simp length-set (c .before .before .loop .inv .1 .1 .0),
-          raised-turn _ _ _ _ (c .before .before .loop .inv .1 .1 .1)
+          raised-turn 2 _ _ _ _ (c .before .before .loop .inv .1 .1 .1)
               (omega arith) (c .before .before .loop .inv .1 .0) (c .before .before .before .pre .1),
         ),
       ),
