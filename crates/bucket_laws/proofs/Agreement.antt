@@ -3,9 +3,7 @@ use Prim.Native.Nat.{ℕ}
 use native.Mathlib.Omega.{arith}
 use mathlib.Core.Path.{_≡_}
 use mathlib.Core.List.{List}
-use mathlib.Core.Bool.{false}
-use Rattle.booleans.proofs.Tests.{neither}
-use Rattle.bucket_rules.specs.Calls.{shortOutput, shortScratch, sortOf, bitmapOf}
+use Rattle.bucket_rules.specs.Calls.{sortOf, bitmapOf}
 use Rattle.bucket_laws.specs.Clauses.{FirstInvalid, Canonical, Result, BucketResult, EquivalentResults, Gives, OutputRoom}
 use Rattle.bucket_laws.specs.Clauses.{BitmapRoom, Agree}
 use Rattle.bucket_laws.proofs.Standing.{place-stands, stands-below}
@@ -61,14 +59,6 @@ module _ (input : List ℕ) (count : ℕ) (output other scratch : List ℕ) wher
         results = engines-equivalent;
         front = λ n h. engines-equivalent _ _ (Gives.ok h) (Gives.ok (rw e at h));
       }
-
-  -- the same, said by the tests
-  pub tests-agree :
-      shortOutput input count output ≡ false → shortOutput input count other ≡ false → shortScratch count scratch ≡ false →
-      Agree (sortOf input count output) (bitmapOf input count other scratch)
-  tests-agree h k l =
-      rules-agree (room-output-exactly input count output .0 h)
-      (room-bitmap-exactly input count other scratch .0 (neither _ _ k l))
 
 -- where the same output is lent to both, with room, it holds the same afterwards
 pub outputs-agree :

@@ -28,16 +28,6 @@ answer-back (Answer.Range b) = refl
 pub told-injective : (a b : Answer) → toldOf a ≡ toldOf b → a ≡ b
 told-injective a b e = sym (answer-back a) ∙ (ap answerBack e ∙ answer-back b)
 
--- an answer is accepted exactly where it is 0 with some number
-pub accepted-number : (a : Answer) → (isAccepted a ≡ true) ↔ ((n : ℕ) × (a ≡ Answer.Accepted n))
-accepted-number a = (number a, λ p. rw (p .1))
-  where
-    number : (c : Answer) → isAccepted c ≡ true → (n : ℕ) × (c ≡ Answer.Accepted n)
-    number (Answer.Accepted n) h = (n, refl)
-    number Answer.Limits h = absurd (clash false h refl)
-    number Answer.Room h = absurd (clash false h refl)
-    number (Answer.Range b) h = absurd (clash false h refl)
-
 -- an answer is not accepted exactly where it is 30, 31 or 32
 pub refused-number :
     (a : Answer) → (isAccepted a ≡ false) ↔ ((a ≡ Answer.Limits) ⊎ ((a ≡ Answer.Room) ⊎ ((b : ℕ) × (a ≡ Answer.Range b))))
