@@ -54,11 +54,11 @@ fn short_output(input: &[u32], count: u32, output: &[u32]) -> bool
     output.len() < count as usize
 }
 
-// The scratch has no bit for some bucket. No sum can wrap here, whatever the count.
+// The scratch has no bit for some bucket.
 fn short_scratch(count: u32, scratch: &[u32]) -> bool
     ensures { λ r. ⌜ r ≡ shortScratch count (now (scratch .entry)) ⌝ }
 {
-    scratch.len() < (count as usize + 31) / 32
+    scratch.len() < bitmaps::numbers_for(count)
 }
 
 // The output or the scratch is too short for the bitmap engine.
