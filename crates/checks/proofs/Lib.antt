@@ -5,3 +5,4 @@ pub mod Failing
 pub mod Few
 pub mod Numbers
 pub mod Pairs
+pub mod Guarding

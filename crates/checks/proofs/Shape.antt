@@ -6,10 +6,12 @@ use mathlib.Core.List.{List, [], _∷_}
 use mathlib.Core.Bool.{Bool, true, false, _&&_, and-true, and-false}
 use lib.ListN.{length, drop, getD, length-drop, drop-of-length-le}
 use lib.Seq.{getD-drop, drop-drop}
+use lib.Dec.{leb}
 use borrow.Author.Tests.{le-leb, lt-leb, eq-eqb, ne-eqb}
 use Rattle.rules.specs.Limits.{mostChanges, mostGuards}
-use Rattle.rules.specs.Orders.{properKey, changes, properChanges, properLists}
+use Rattle.rules.specs.Orders.{properKey, changes, properChanges, properGuards}
 use Rattle.checks.specs.Keys.{properAt}
+use Rattle.checks.specs.Guarding.{properBeside}
 use Rattle.checks.proofs.Guards.{guards-length}
 
 proper-front :
@@ -47,28 +49,20 @@ proper-not (a ∷ b ∷ c ∷ d ∷ e ∷ []) h = refl
 proper-not (a ∷ b ∷ c ∷ d ∷ e ∷ f ∷ rest) h =
     rw (proper-not rest (λ k. h (omega arith))) (and-false (properKey c d && properKey e f))
 
-module _ (cs gs : List ℕ) where
-  pub lists-over : mostChanges < length (changes cs) → properLists cs gs ≡ false
-  unfolding properLists
-  lists-over h = rw (lt-leb (length (changes cs)) mostChanges h, and-false)
+pub guards-odd : (gs : List ℕ) → (length gs % 2 ≡ 0 → ⊥) → properGuards gs ≡ false
+unfolding properGuards
+guards-odd gs h = rw (ne-eqb (length gs % 2) 0 h)
 
-  pub lists-odd : (length gs % 2 ≡ 0 → ⊥) → properLists cs gs ≡ false
-  unfolding properLists
-  lists-odd h = rw (ne-eqb (length gs % 2) 0 h, and-false)
+pub guards-even : (gs : List ℕ) → length gs % 2 ≡ 0 → properGuards gs ≡ leb (length gs / 2) mostGuards
+unfolding properGuards
+guards-even gs e = rw (eq-eqb (length gs % 2) 0 e, guards-length gs)
 
-  pub lists-crowded : mostGuards < length gs / 2 → properLists cs gs ≡ false
-  unfolding properLists
-  lists-crowded h = rw (guards-length gs, lt-leb (length gs / 2) mostGuards h, and-false)
+module _ (cs : List ℕ) where
+  pub lists-over : (paired : Bool) → mostChanges < length (changes cs) → properBeside cs paired ≡ false
+  lists-over paired h = rw (lt-leb (length (changes cs)) mostChanges h, and-false)
 
-  pub lists-within :
-      length (changes cs) ≤ mostChanges → length gs % 2 ≡ 0 → length gs / 2 ≤ mostGuards → properLists cs gs ≡ properChanges cs
-  unfolding properLists
-  lists-within m e n =
-      rw (
-        le-leb (length (changes cs)) mostChanges m,
-        eq-eqb (length gs % 2) 0 e,
-        guards-length gs,
-        le-leb (length gs / 2)
-            mostGuards n,
-      )
-      (simp and-true)
+  pub lists-unpaired : properBeside cs false ≡ false
+  lists-unpaired = and-false (properChanges cs && leb (length (changes cs)) mostChanges)
+
+  pub lists-within : length (changes cs) ≤ mostChanges → properBeside cs true ≡ properChanges cs
+  lists-within m = rw (le-leb (length (changes cs)) mostChanges m) (simp and-true)

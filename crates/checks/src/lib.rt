@@ -14,16 +14,18 @@ use rules::Verdict;
 ghost use Prim.Native.Nat.{_+_, _<_, _≤_};
 ghost use mathlib.Core.Path.{_≡_};
 ghost use mathlib.Core.List.{[]};
-ghost use mathlib.Core.Bool.{not};
+ghost use mathlib.Core.Bool.{not, _&&_};
 ghost use lib.ListN.{length, take, getD};
+ghost use lib.Dec.{eqb, ltb};
 ghost use Rattle.rules.specs.declared.Answer.{Answer};
 ghost use Rattle.rules.specs.Limits.{mostChanges};
 ghost use Rattle.rules.specs.Postings.{present};
 ghost use Rattle.rules.specs.Table.{postings};
-ghost use Rattle.rules.specs.Orders.{properKey, properChanges, properLists, guards, changes, held, destinationOf, destinations, sources, noChange, Numbered, postingsOf};
+ghost use Rattle.rules.specs.Orders.{properKey, properChanges, properGuards, guards, changes, held, destinationOf, destinations, sources, noChange, Numbered, postingsOf};
 ghost use Rattle.rules.specs.Checks.{firstFailing, heldKey, guarded, isNamed, recordable, among, recordFrom, twiceFrom};
 ghost use Rattle.table.specs.Holding.{Ordered};
 ghost use Rattle.checks.specs.Keys.{properAt, goesTo, oneDestination, destinationIn, sourceIn};
+ghost use Rattle.checks.specs.Guarding.{properBeside, bindingsFrom};
 
 // The limits that the code tests: the rules' own numbers.
 pub const MOST_CHANGES: usize = 256;
@@ -69,20 +71,27 @@ fn proper_changes(list: &[u32]) -> bool
     true
 }
 
-// 3 LIST passes. Lengths come first, so that a list of any length is judged at once.
-pub fn proper_lists(list: &[u32], pairs: &[u32]) -> bool
-    ensures { λ r. ⌜ r ≡ properLists (now (list .entry)) (now (pairs .entry)) ⌝ }
+// Whole pairs, not over their limit.
+pub fn proper_guards(pairs: &[u32]) -> bool
+    ensures { λ r. ⌜ r ≡ properGuards (now (pairs .entry)) ⌝ }
+{
+    if pairs.len() % 2 != 0 {
+        return false;
+    }
+    pairs.len() / 2 <= MOST_GUARDS
+}
+
+// 3 LIST passes, beside guards that are proper or not. Lengths come first, so that a list of any length is judged at once.
+pub fn proper_lists(list: &[u32], paired: bool) -> bool
+    ensures { λ r. ⌜ r ≡ properBeside (now (list .entry)) paired ⌝ }
 {
     if count_of(list) > MOST_CHANGES {
         return false;
     }
-    if pairs.len() % 2 != 0 {
-        return false;
+    if paired {
+        return proper_changes(list);
     }
-    if pairs.len() / 2 > MOST_GUARDS {
-        return false;
-    }
-    proper_changes(list)
+    false
 }
 
 // The pair (binding, key) is among the guards, which lie two numbers to each.
@@ -137,6 +146,34 @@ pub fn check_guards(bindings: u32, list: &[u32], pairs: &[u32]) -> Verdict
             i += 1;
         } else {
             return Verdict::Refused(Answer::Guard(i as u32));
+        }
+    }
+    Verdict::Passes
+}
+
+// It is not the change whose key is not held, and its binding is below the count.
+fn is_bound(bindings: u32, unheld: usize, i: usize, change: Change) -> bool
+    ensures { λ r. ⌜ r ≡ (not (eqb i unheld) && ltb (change .binding) bindings) ⌝ }
+{
+    if i == unheld {
+        return false;
+    }
+    change.binding < bindings
+}
+
+// 6 GUARD where the first change with a key that is not held is known: that one, or one before it whose binding is not below
+// the count.
+pub fn check_bindings(bindings: u32, list: &[u32], unheld: usize) -> Verdict
+    requires { ⌜ length (changes (now list)) ≤ mostChanges ⌝ }
+    ensures { λ r. ⌜ r ≡ bindingsFrom bindings unheld 0 (changes (now (list .entry))) ⌝ }
+{
+    let n = count_of(list);
+    let mut number = 0;
+    while number < n {
+        if is_bound(bindings, unheld, number, change_at(list, number)) {
+            number += 1;
+        } else {
+            return Verdict::Refused(Answer::Guard(number as u32));
         }
     }
     Verdict::Passes

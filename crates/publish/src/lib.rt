@@ -8,7 +8,7 @@ use rules::Head;
 use rules::Verdict;
 ghost use mathlib.Core.List.{[]};
 ghost use Rattle.refusals.specs.Lending.{lending};
-ghost use Rattle.publish.specs.Promises.{PreparePromise, RollbackPromise, RemovalPromise, PublishPromise, CountPromise};
+ghost use Rattle.publish.specs.Promises.{PreparePromise, RollbackPromise, RemovalPromise, PublishPromise, GuardedPromise, CountPromise};
 
 // What a call answers, and the head that it leaves. The head goes by value: the next call on this table must be given this one,
 // or a poison flag that 12 or 13 set is lost.
@@ -87,6 +87,26 @@ pub fn publish(
         (now (table .exit)) (now («record» .exit)) ⌝ }
 {
     match refusals::of_publish(head, table, changes, guards, strip, record) {
+        Verdict::Refused(answer) => Done { head, answer },
+        Verdict::Passes => work::publish(head, table, changes, strip, record),
+    }
+}
+
+// Publish for a caller who has looked at the guards himself, as `entry` does: he says whether they are proper, and which change
+// is the first with a key that they do not hold.
+pub fn publish_guarded(
+    head: Head,
+    table: &mut [u32],
+    changes: &[u32],
+    paired: bool,
+    unheld: usize,
+    strip: &[u8],
+    record: &mut [u32],
+) -> Done
+    ensures { λ r. ⌜ GuardedPromise head (now (table .entry)) (now (changes .entry)) paired unheld (now (strip .entry))
+        (now («record» .entry)) r (now (table .exit)) (now («record» .exit)) ⌝ }
+{
+    match refusals::of_guarded_publish(head, table, changes, paired, unheld, strip, record) {
         Verdict::Refused(answer) => Done { head, answer },
         Verdict::Passes => work::publish(head, table, changes, strip, record),
     }

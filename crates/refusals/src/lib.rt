@@ -8,11 +8,13 @@ ghost use mathlib.Core.Path.{_≡_};
 ghost use mathlib.Core.List.{[], _∷_};
 ghost use mathlib.Core.Bool.{true};
 ghost use lib.ListN.{length};
+ghost use Rattle.rules.specs.declared.Answer.{Answer};
 ghost use Rattle.rules.specs.Limits.{mostChanges};
 ghost use Rattle.rules.specs.Table.{wellFormed};
 ghost use Rattle.rules.specs.Orders.{changes};
-ghost use Rattle.rules.specs.Checks.{firstRefusal, tableCheck, poisonCheck, listCheck, stripCheck, roomCheck, guardCheck, twiceCheck, presentCheck, prepareChecks, rollbackChecks, removalChecks, publishChecks, countChecks};
-ghost use Rattle.refusals.specs.Lending.{lending};
+ghost use Rattle.rules.specs.Checks.{must, firstRefusal, tableCheck, poisonCheck, stripCheck, roomCheck, twiceCheck, presentCheck, prepareChecks, rollbackChecks, removalChecks, publishChecks, countChecks};
+ghost use Rattle.checks.specs.Guarding.{properBeside};
+ghost use Rattle.refusals.specs.Lending.{lending, guardedChecks};
 
 // 1 TABLE, 2 POISONED.
 fn of_table(head: Head, table: &[u32]) -> Verdict
@@ -27,14 +29,14 @@ fn of_table(head: Head, table: &[u32]) -> Verdict
     Verdict::Refused(Answer::Table)
 }
 
-// 3 LIST, 4 STRIP.
-fn of_lists(list: &[u32], pairs: &[u32], strip: &[u8]) -> Verdict
+// 3 LIST, 4 STRIP, beside guards that are proper or not.
+fn of_lists(list: &[u32], paired: bool, strip: &[u8]) -> Verdict
     ensures { λ r. ⌜ r ≡ firstRefusal
-        (listCheck (lending (now (list .entry)) (now (pairs .entry)) (now (strip .entry)) [])
-        ∷ stripCheck (lending (now (list .entry)) (now (pairs .entry)) (now (strip .entry)) [])
+        (must (properBeside (now (list .entry)) paired) Answer.List
+        ∷ stripCheck (lending (now (list .entry)) [] (now (strip .entry)) [])
         ∷ []) ⌝ }
 {
-    if checks::proper_lists(list, pairs) {
+    if checks::proper_lists(list, paired) {
         if strips::proper_strip(strip) {
             return Verdict::Passes;
         }
@@ -53,16 +55,43 @@ fn of_room(list: &[u32], record: &[u32]) -> Verdict
     Verdict::Refused(Answer::Room)
 }
 
-// 6 GUARD, 7 TWICE, 8 PRESENT.
-fn of_destinations(head: Head, table: &[u32], list: &[u32], pairs: &[u32]) -> Verdict
-    requires { ⌜ (wellFormed head (now table) ≡ true) × (length (changes (now list)) ≤ mostChanges) ⌝ }
+// 1 to 5, beside guards that are proper or not.
+fn of_order(
+    head: Head,
+    table: &[u32],
+    list: &[u32],
+    paired: bool,
+    strip: &[u8],
+    record: &[u32],
+) -> Verdict
     ensures { λ r. ⌜ r ≡ firstRefusal
-        (guardCheck head (lending (now (list .entry)) (now (pairs .entry)) [] [])
-        ∷ twiceCheck (lending (now (list .entry)) (now (pairs .entry)) [] [])
-        ∷ presentCheck head (now (table .entry)) (lending (now (list .entry)) (now (pairs .entry)) [] [])
+        (tableCheck head (now (table .entry))
+        ∷ poisonCheck head
+        ∷ must (properBeside (now (list .entry)) paired) Answer.List
+        ∷ stripCheck (lending (now (list .entry)) [] (now (strip .entry)) [])
+        ∷ roomCheck (lending (now (list .entry)) [] [] (now («record» .entry)))
         ∷ []) ⌝ }
 {
-    let guarded = checks::check_guards(head.bindings, list, pairs);
+    let formed = of_table(head, table);
+    let Verdict::Passes = formed else {
+        return formed;
+    };
+    let proper = of_lists(list, paired, strip);
+    let Verdict::Passes = proper else {
+        return proper;
+    };
+    of_room(list, record)
+}
+
+// 6 GUARD as it was found, then 7 TWICE, 8 PRESENT.
+fn of_destinations(head: Head, table: &[u32], list: &[u32], guarded: Verdict) -> Verdict
+    requires { ⌜ (wellFormed head (now table) ≡ true) × (length (changes (now list)) ≤ mostChanges) ⌝ }
+    ensures { λ r. ⌜ r ≡ firstRefusal
+        (guarded
+        ∷ twiceCheck (lending (now (list .entry)) [] [] [])
+        ∷ presentCheck head (now (table .entry)) (lending (now (list .entry)) [] [] [])
+        ∷ []) ⌝ }
+{
     let Verdict::Passes = guarded else {
         return guarded;
     };
@@ -85,19 +114,13 @@ pub fn of_prepare(
     ensures { λ r. ⌜ r ≡ prepareChecks head (now (table .entry))
         (lending (now (list .entry)) (now (pairs .entry)) (now (strip .entry)) (now («record» .entry))) ⌝ }
 {
-    let formed = of_table(head, table);
-    let Verdict::Passes = formed else {
-        return formed;
+    let paired = checks::proper_guards(pairs);
+    let ready = of_order(head, table, list, paired, strip, record);
+    let Verdict::Passes = ready else {
+        return ready;
     };
-    let proper = of_lists(list, pairs, strip);
-    let Verdict::Passes = proper else {
-        return proper;
-    };
-    let room = of_room(list, record);
-    let Verdict::Passes = room else {
-        return room;
-    };
-    of_destinations(head, table, list, pairs)
+    let guarded = checks::check_guards(head.bindings, list, pairs);
+    of_destinations(head, table, list, guarded)
 }
 
 // 1 to 9.
@@ -119,6 +142,32 @@ pub fn of_publish(
     checks::check_overlap(list)
 }
 
+// 1 to 9 for a caller who has looked at the guards himself: he says whether they are proper, and which change is the first with
+// a key that they do not hold.
+pub fn of_guarded_publish(
+    head: Head,
+    table: &[u32],
+    list: &[u32],
+    paired: bool,
+    unheld: usize,
+    strip: &[u8],
+    record: &[u32],
+) -> Verdict
+    ensures { λ r. ⌜ r ≡ guardedChecks head (now (table .entry)) (now (list .entry)) paired unheld (now (strip .entry))
+        (now («record» .entry)) ⌝ }
+{
+    let ready = of_order(head, table, list, paired, strip, record);
+    let Verdict::Passes = ready else {
+        return ready;
+    };
+    let guarded = checks::check_bindings(head.bindings, list, unheld);
+    let clear = of_destinations(head, table, list, guarded);
+    let Verdict::Passes = clear else {
+        return clear;
+    };
+    checks::check_overlap(list)
+}
+
 // 1 to 4, 6.
 pub fn of_removal(head: Head, table: &[u32], list: &[u32], pairs: &[u32], strip: &[u8]) -> Verdict
     ensures { λ r. ⌜ r ≡ removalChecks head (now (table .entry))
@@ -128,7 +177,8 @@ pub fn of_removal(head: Head, table: &[u32], list: &[u32], pairs: &[u32], strip:
     let Verdict::Passes = formed else {
         return formed;
     };
-    let proper = of_lists(list, pairs, strip);
+    let paired = checks::proper_guards(pairs);
+    let proper = of_lists(list, paired, strip);
     let Verdict::Passes = proper else {
         return proper;
     };

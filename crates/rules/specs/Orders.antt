@@ -46,10 +46,13 @@ guards [] = []
 guards (binding ∷ []) = []
 guards (binding ∷ key ∷ rest) = record { binding = binding; key = key } ∷ guards rest
 
--- a well-formed change list and whole pairs of guard numbers, neither over its limit
+-- whole pairs of guard numbers, not over their limit
+unfoldable pub properGuards : List ℕ → Bool
+properGuards gs = eqb (length gs % 2) 0 && leb (length (guards gs)) mostGuards
+
+-- a well-formed change list, not over its limit, and such guards
 unfoldable pub properLists : List ℕ → List ℕ → Bool
-properLists cs gs =
-    properChanges cs && leb (length (changes cs)) mostChanges && eqb (length gs % 2) 0 && leb (length (guards gs)) mostGuards
+properLists cs gs = properChanges cs && leb (length (changes cs)) mostChanges && properGuards gs
 
 -- the pair (binding, key) is among the guards
 unfoldable pub held : ℕ → ℕ → List Guard → Bool

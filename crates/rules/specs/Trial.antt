@@ -2,7 +2,7 @@
 use Rattle.strips.specs.Strips.{properBytes, properStrip}
 use Rattle.rules.specs.Postings.{every, ranked, compared, same, chain, ascending, present, inserted, removed, bucket, within}
 use Rattle.rules.specs.Table.{cells, numbers, allOf, limitsHold, wellFormed}
-use Rattle.rules.specs.Orders.{changes, properChanges, guards, properLists, held, destinationsFrom, sourcesFrom, recorded}
+use Rattle.rules.specs.Orders.{changes, properChanges, guards, properGuards, properLists, held, destinationsFrom, sourcesFrom, recorded}
 use Rattle.rules.specs.Storage.{insertion, removal}
 use Rattle.rules.specs.Checks.{firstRefusal, firstFailing, tableCheck, poisonCheck, listCheck, stripCheck, roomCheck, guarded, guardCheck, recordable, among, recordFrom, recordCheck, equalTo, twiceFrom, twiceCheck, presentCheck, overlapCheck, prepareChecks, rollbackChecks, removalChecks, publishChecks, countChecks}
 use Rattle.rules.specs.Publication.{undoing, preparing, removing}
@@ -10,5 +10,5 @@ use Rattle.rules.specs.Calls.{prepareOf, rollbackOf, removalOf, publishO
 
 -- any value, as it is
 unfoldable pub computing : {A : Type 0} → A → A
-unfolding every ranked compared same chain ascending present inserted removed bucket within cells numbers allOf limitsHold wellFormed changes properChanges guards properLists held properBytes properStrip destinationsFrom sourcesFrom recorded insertion removal firstRefusal firstFailing tableCheck poisonCheck listCheck stripCheck roomCheck guarded guardCheck recordable among recordFrom recordCheck equalTo twiceFrom twiceCheck presentCheck overlapCheck prepareChecks rollbackChecks removalChecks publishChecks countChecks undoing preparing removing prepareOf rollbackOf removalOf publishOf countOf
+unfolding every ranked compared same chain ascending present inserted removed bucket within cells numbers allOf limitsHold wellFormed changes properChanges guards properGuards properLists held properBytes properStrip destinationsFrom sourcesFrom recorded insertion removal firstRefusal firstFailing tableCheck poisonCheck listCheck stripCheck roomCheck guarded guardCheck recordable among recordFrom recordCheck equalTo twiceFrom twiceCheck presentCheck overlapCheck prepareChecks rollbackChecks removalChecks publishChecks countChecks undoing preparing removing prepareOf rollbackOf removalOf publishOf countOf
 computing x = x

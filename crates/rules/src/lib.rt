@@ -31,6 +31,7 @@ pub struct Change {
 }
 
 // A held guard: whoever publishes holds this key of this index.
+#[repr(C)]
 pub struct Guard {
     pub binding: u32,
     pub key: u32,

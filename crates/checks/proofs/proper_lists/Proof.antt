@@ -1,8 +1,8 @@
--- `proper_lists` tests the lengths and then the changes.
+-- `proper_lists` tests the number of changes, then the guards, and then the changes.
 use native.Mathlib.Omega.{arith}
 use mathlib.Core.Path.{sym, _∙_}
 use borrow.Author.Needs.{needs}
-use Rattle.checks.proofs.Shape.{lists-over, lists-odd, lists-crowded, lists-within}
+use Rattle.checks.proofs.Shape.{lists-over, lists-unpaired, lists-within}
 use Rattle.checks.proofs.proper_lists.Statement.{statement}
 use Rattle.checks.proofs.proper_lists.Tie as tie
 
@@ -11,29 +11,21 @@ count-of-requires c κs = search needs
 
 returns : tie.Need-returns
 returns c =
-    let start = c .before .before .before .before in
-    sym (lists-over (start .args .list .now) (start .args .pairs .now) (omega arith))
-
-returns-2 : tie.Need-returns-2
-returns-2 c =
-    let start = c .before .before .before .before .before in
-    sym (lists-odd (start .args .list .now) (start .args .pairs .now) (c .if2 .taken))
-
-returns-3 : tie.Need-returns-3
-returns-3 c =
-    let start = c .before .before .before .before .before .before in
-    sym (lists-crowded (start .args .list .now) (start .args .pairs .now) (c .if3 .taken))
+    let start = c .before .before .before in
+    sym (lists-over (start .args .list .now) _ (omega arith))
 
 proper-changes-requires : tie.Need-proper-changes-requires
 proper-changes-requires c κs = search needs
 
-returns-4 : tie.Need-returns-4
-returns-4 c =
-    let start = c .before .before .before .before .before .before .before in
-    c .proper-changes .ensures ∙ sym
-    (lists-within (start .args .list .now) (start .args .pairs .now) (omega arith) (omega arith) (omega arith))
+returns-2 : tie.Need-returns-2
+returns-2 c =
+    let start = c .before .before .before .before .before in
+    rw (c .before .if2 .taken) (c .proper-changes .ensures ∙ sym (lists-within (start .args .list .now) (omega arith)))
+
+returns-3 : tie.Need-returns-3
+returns-3 c =
+    let start = c .before .before .before .before in
+    rw (c .if2 .left) (sym (lists-unpaired (start .args .list .now)))
 
 pub proper-lists-spec : {M : Type 1} → statement M
-proper-lists-spec =
-    tie.close
-    (tie.spec count-of-requires returns returns-2 returns-3 proper-changes-requires returns-4)
+proper-lists-spec = tie.close (tie.spec count-of-requires returns proper-changes-requires returns-2 returns-3)
