@@ -36,15 +36,22 @@ pub fn is_accepted(answer: Answer) -> bool
     tell(answer).answer == 0
 }
 
-// The poison flag after an answer: 12 and 13 set it.
-pub fn flag_after(answer: Answer, flag: u32) -> u32
-    ensures { λ r. ⌜ r ≡ cond (poisons answer) 1 flag ⌝ }
+// 12 or 13: a removal failed, and the poison flag is set.
+pub fn sets_poison(answer: Answer) -> bool
+    ensures { λ r. ⌜ r ≡ poisons answer ⌝ }
 {
     let number = tell(answer).answer;
     if number == 12 {
-        return 1;
+        return true;
     }
-    if number == 13 {
+    number == 13
+}
+
+// The poison flag after an answer.
+pub fn flag_after(answer: Answer, flag: u32) -> u32
+    ensures { λ r. ⌜ r ≡ cond (poisons answer) 1 flag ⌝ }
+{
+    if sets_poison(answer) {
         return 1;
     }
     flag

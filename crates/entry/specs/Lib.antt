@@ -1,0 +1,3 @@
+-- What the contracts of `entry` speak of.
+pub mod Asking
+pub mod Promises

@@ -1,0 +1,91 @@
+// The final entries: the head is lent and set in place, and the held guards are a lent list of guards. They are thin over the
+// calls of `publish`, which take the head by value and guards as flat numbers; what they promise is said of the flat numbers.
+// Any numbers may come in. The prover does not walk code over a reference to a struct, so `poison_indexes`, `held`, `key_held`,
+// `first_unheld` and `publish` are proved by hand; whatever decides anything is in small functions over plain values.
+mod guarding;
+
+use guarding::Wanted;
+use rules::Answer;
+use rules::Guard;
+use rules::Head;
+ghost use mathlib.Core.Path.{_≡_};
+ghost use Rattle.rules.specs.Orders.{held};
+ghost use Rattle.entry.specs.Asking.{wantedHeld, unheldPlace};
+ghost use Rattle.entry.specs.Promises.{poisonedHead, EntryPromise};
+
+// Sets the poison flag in place: counts of these indexes are withheld from now on.
+pub fn poison_indexes(head: &mut Head)
+    ensures { λ _. ⌜ now (head .exit) ≡ poisonedHead (now (head .entry)) ⌝ }
+{
+    head.poisoned = 1;
+}
+
+// The pair (binding, key) is among the guards.
+pub fn held(guards: &[Guard], binding: u32, key: u32) -> bool
+    ensures { λ r. ⌜ r ≡ held binding key (now (guards .entry)) ⌝ }
+{
+    let mut i = 0;
+    while i < guards.len() {
+        if guarding::is_guard(guards[i], binding, key) {
+            return true;
+        }
+        i += 1;
+    }
+    false
+}
+
+// A named key is held; none need not be.
+fn key_held(guards: &[Guard], wanted: Wanted) -> bool
+    ensures { λ r. ⌜ r ≡ wantedHeld (now (guards .entry)) wanted ⌝ }
+{
+    if wanted.named {
+        return held(guards, wanted.binding, wanted.key);
+    }
+    true
+}
+
+// The first place, two to a change, whose key is named and not held; or how many places there are.
+fn first_unheld(guards: &[Guard], list: &[u32]) -> usize
+    ensures { λ r. ⌜ r ≡ unheldPlace (now (guards .entry)) (now (list .entry)) ⌝ }
+{
+    let n = guarding::keys_asked(list, guards.len());
+    let mut place = 0;
+    while place < n {
+        let wanted = guarding::wanted_at(list, place);
+        if key_held(guards, wanted) {
+            place += 1;
+        } else {
+            return place;
+        }
+    }
+    n
+}
+
+// Publish: `used` is written into the lent head, and where a removal failed the poison flag is set there.
+pub fn publish(
+    head: &mut Head,
+    table: &mut [u32],
+    changes: &[u32],
+    guards: &[Guard],
+    strip: &[u8],
+    record: &mut [u32],
+) -> Answer
+    ensures { λ r. ⌜ EntryPromise (now (head .entry)) (now (table .entry)) (now (changes .entry)) (now (guards .entry))
+        (now (strip .entry)) (now («record» .entry)) r (now (head .exit)) (now (table .exit)) (now («record» .exit)) ⌝ }
+{
+    let unheld = first_unheld(guards, changes);
+    let done = guarding::publish_by_value(
+        *head,
+        table,
+        changes,
+        guards.len(),
+        unheld,
+        strip,
+        record,
+    );
+    head.used = done.head.used;
+    if done.poisons {
+        poison_indexes(head);
+    }
+    done.answer
+}
