@@ -1,6 +1,5 @@
--- Where a posting stands among ascending ones, by how many stand before it: what a search finds, and what insertion and removal
--- make of the list there.
-use Prim.Native.Nat.{ℕ, zero, suc, _+_, _<_, _≤_}
+-- Where a posting stands among ascending ones, by how many stand before it, and what insertion and removal make of the list there.
+use Prim.Native.Nat.{ℕ, suc, _<_, _≤_}
 use native.Mathlib.Omega.{arith}
 use mathlib.Core.Path.{_≡_, refl, sym, ap, _∙_}
 use mathlib.Core.Logic.{_⊎_, inl, inr}
@@ -34,7 +33,7 @@ pub earlier-before :
 unfolding earlier
 earlier-before p q qs e = rw e
 
-earlier-most : (p : Posting) (ps : List Posting) → earlier p ps ≤ length ps
+pub earlier-most : (p : Posting) (ps : List Posting) → earlier p ps ≤ length ps
 unfolding earlier
 earlier-most p [] = omega arith
 earlier-most p (q ∷ qs) = go (isBefore (compared q p)) (earlier-most p qs)
@@ -80,10 +79,6 @@ inserted-nowhere : (p : Posting) → inserted p [] ≡ take (earlier p []) [] ++
 unfolding inserted earlier
 inserted-nowhere p = refl
 
-earlier-nowhere : (p : Posting) → earlier p [] ≡ 0
-unfolding earlier
-earlier-nowhere p = refl
-
 present-nowhere : (p : Posting) → present p [] ≡ false
 unfolding present
 present-nowhere p = refl
@@ -127,61 +122,6 @@ removed-at p (q ∷ qs) h e = go (compared q p) refl (λ k. removed-at p qs (asc
         let c : chain p qs ≡ true = rw z at h in
         rw (z, same-self p, removed-absent p qs (absent-before p qs c), earlier-none p p qs c (ap isBefore (compared-self p)))
     go Order.After k ih = absurd (clash (present p (q ∷ qs)) e (present-after p q qs h k))
-
-ascending-drop : (i : ℕ) (ps : List Posting) → ascending ps ≡ true → ascending (drop i ps) ≡ true
-unfolding ascending
-ascending-drop zero ps h = h
-ascending-drop (suc i) [] h = refl
-ascending-drop (suc i) (q ∷ qs) h = ascending-drop i qs (ascending-rest q qs h)
-
--- a search for p has passed i postings, and all of them stand before p
-pub record Passed (p : Posting) (ps : List Posting) (i : ℕ) : Type 0 where
-  pub before : earlier p ps ≡ i + earlier p (drop i ps)
-  pub beyond : present p ps ≡ present p (drop i ps)
-
-pub passed-none : (p : Posting) (ps : List Posting) → Passed p ps 0
-passed-none p ps = record { before = omega arith; beyond = refl }
-
-module _ (p : Posting) (ps : List Posting) (i : ℕ) (z : Passed p ps i) where
-  pub passed-all : drop i ps ≡ [] → placeOf p ps ≡ Place.Gap i
-  unfolding placeOf
-  passed-all e = rw (z .beyond ∙ (ap (present p) e ∙ present-nowhere p)) (ap Place.Gap place)
-    where
-      place : earlier p ps ≡ i
-      place = let b = z .before in let f = ap (earlier p) e ∙ earlier-nowhere p in omega arith
-
-  module _ (q : Posting) (here : drop i ps ≡ q ∷ drop (i + 1) ps) where
-    pub passed-more : compared q p ≡ Order.Before → Passed p ps (i + 1)
-    passed-more e =
-        record {
-          before =
-              let b = z .before in
-              let f = ap (earlier p) here ∙ earlier-before p q (drop (i + 1) ps) e in
-              omega arith;
-          beyond = z .beyond ∙ (ap (present p) here ∙ present-before p q (drop (i + 1) ps) e);
-        }
-
-    module _ (sorted : ascending ps ≡ true) where
-      chained : chain q (drop (i + 1) ps) ≡ true
-      unfolding ascending
-      chained = sym (ap ascending here) ∙ ascending-drop i ps sorted
-
-      stopped : isBefore (compared q p) ≡ false → earlier p ps ≡ i
-      stopped e =
-          let b = z .before in
-          let f = ap (earlier p) here ∙ earlier-none p q (drop (i + 1) ps) chained e in
-          omega arith
-
-      pub passed-same : compared q p ≡ Order.Same → placeOf p ps ≡ Place.At i
-      unfolding placeOf
-      passed-same e =
-          rw (z .beyond ∙ (ap (present p) here ∙ present-same p q (drop (i + 1) ps) e)) (ap Place.At (stopped (ap isBefore e)))
-
-      pub passed-after : compared q p ≡ Order.After → placeOf p ps ≡ Place.Gap i
-      unfolding placeOf
-      passed-after e =
-          rw (z .beyond ∙ (ap (present p) here ∙ present-after p q (drop (i + 1) ps) chained e))
-          (ap Place.Gap (stopped (ap isBefore e)))
 
 -- where a search found it, and whether it stands there
 pub at-present : (p : Posting) (ps : List Posting) (at : ℕ) → placeOf p ps ≡ Place.At at → present p ps ≡ true

@@ -174,20 +174,22 @@ pub fn well_formed(head: Head, table: &[u32]) -> bool
     false
 }
 
-// Where a posting stands, or would: a walk from the front.
+// Where a posting stands, or would: a search by halves.
 pub fn find(table: &[u32], used: usize, p: Posting) -> Place
     requires { ⌜ Ordered (now table) used ⌝ }
     ensures { λ r. ⌜ r ≡ placeOf p (postings used (now (table .entry))) ⌝ }
 {
-    let mut i = 0;
-    while i < used {
-        match compare(read(table, i), p) {
-            Order::Before => i += 1,
-            Order::Same => return Place::At(i),
-            Order::After => return Place::Gap(i),
+    let mut low = 0;
+    let mut high = used;
+    while low < high {
+        let middle = low + (high - low) / 2;
+        match compare(read(table, middle), p) {
+            Order::Before => low = middle + 1,
+            Order::Same => return Place::At(middle),
+            Order::After => high = middle,
         }
     }
-    Place::Gap(used)
+    Place::Gap(low)
 }
 
 // The posting stands in the table.
