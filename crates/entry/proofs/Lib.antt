@@ -1,4 +1,5 @@
--- What the walks by hand share, and the laws that they cite.
+-- What the walks by hand share, the laws that they cite, and that each entry has one outcome.
+pub mod Walk
 pub mod Asking
 pub mod InPlace
-pub mod Walk
+pub mod Outcomes
