@@ -5,6 +5,7 @@ use mathlib.Core.Path.{_≡_, refl, sym, ap, _∙_}
 use mathlib.Core.List.{List, [], _∷_, _++_, map}
 use mathlib.Core.Bool.{Bool, true, false, cond, not, _&&_}
 use Rattle.rules.specs.declared.Answer.{Answer}
+use Rattle.rules.specs.declared.Guard.{Guard}
 use Rattle.rules.specs.declared.Head.{Head}
 use Rattle.rules.specs.declared.Posting.{Posting}
 use Rattle.rules.specs.Table.{wellFormed}
@@ -18,6 +19,9 @@ use Rattle.history.proofs.History.{after-append, right-or-withheld}
 use Rattle.publish.proofs.Outcomes.{seen-outcome}
 use Rattle.publish.specs.declared.Done.{Done}
 use Rattle.publish.specs.Promises.{PublishPromise}
+use Rattle.refusals.specs.Lending.{lending}
+use Rattle.entry.specs.Asking.{flat}
+use Rattle.entry.specs.Promises.{EntryPromise}
 use Rattle.guarantees.specs.Runs.{Made, outcome, left, Kept, Run, none, next, end, calls, seenAfter, taken, sound, CallsRight, CallsWithheld, CallsRightOrWithheld}
 
 -- a call that kept its promise is the rules' publish
@@ -139,6 +143,19 @@ pub promise-kept :
     (head : Head) (table : List ℕ) (c : Call) (r : Done) (t l : List ℕ) → PublishPromise head table c r t l →
     Kept (record { head = head; table = table }) (record { call = c; result = r; table = t; recordList = l })
 promise-kept head table c r t l k = k
+
+-- so is what the lent form promises, at the flat numbers of its guards: runs may be of either form, call by call
+pub lent-promise-kept :
+    (head : Head) (table changes : List ℕ) (guards : List Guard) (strip list : List ℕ) (a : Answer) (head′ : Head) (t l : List ℕ) →
+    EntryPromise head table changes guards strip list a head′ t l →
+    Kept (record { head = head; table = table })
+    (record {
+      call = lending changes (flat guards) strip list;
+      result = record { head = head′; answer = a };
+      table = t;
+      recordList = l;
+    })
+lent-promise-kept head table changes guards strip list a head′ t l k = k
 
 -- and any calls at all make a run: the claim is not empty
 pub made-of : Index → List Call → List Made
