@@ -3,8 +3,12 @@
 use asdrifen::{Guard, Head, View};
 use std::collections::{BTreeMap, BTreeSet};
 
-/// Inputs of one row. The rounds go through them in turn.
-pub const INPUTS: usize = 16;
+/// How many inputs a row has, by the numbers of one. The rounds go through them in turn: enough of them that a processor does
+/// not learn their branches by heart, and not so many that they leave its caches.
+pub fn rotation(numbers: usize) -> u64 {
+    const IN_ALL: usize = 1 << 17;
+    (IN_ALL / numbers).clamp(16, 256) as u64
+}
 
 pub const BINDINGS: u32 = 8;
 

@@ -1,7 +1,7 @@
 //! The bucket calls and the stamp test.
 
 use super::{row, Group, Row, Sides};
-use crate::inputs::{elements, Random, INPUTS};
+use crate::inputs::{elements, rotation, Random};
 use crate::measure::{Calls, Side};
 use crate::ordinary::buckets as ordinary;
 use asdrifen::{lent, Told};
@@ -92,7 +92,7 @@ fn engine_rows(call: &'static str, rattle: fn(&[u32], &mut State<u32>) -> Told) 
     [(64, 8), (512, 2), (4096, 1)]
         .into_iter()
         .map(|(count, calls)| {
-            let inputs: Vec<_> = (0..INPUTS as u64)
+            let inputs: Vec<_> = (0..rotation(count))
                 .map(|seed| elements(count, BUCKETS, seed))
                 .collect();
             let sides = engine_sides(&inputs, calls, rattle);
@@ -134,7 +134,7 @@ fn stamp_side<'a>(
 
 pub fn stamps() -> Group {
     let mut random = Random::new(1);
-    let inputs: Vec<_> = (0..INPUTS)
+    let inputs: Vec<_> = (0..rotation(2))
         .map(|_| (random.next(), random.next()))
         .collect();
     let calls = 1024;

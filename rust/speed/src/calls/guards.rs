@@ -1,7 +1,7 @@
 //! The membership walk over guards, and the poison flag.
 
 use super::{counted, row, Group, Row, Sides};
-use crate::inputs::{Random, INPUTS};
+use crate::inputs::{rotation, Random};
 use crate::measure::{Calls, Side};
 use crate::ordinary::postings as ordinary;
 use asdrifen::{lent, Guard, Head};
@@ -47,7 +47,7 @@ fn held_side<'a>(
 }
 
 fn held_row(count: u32, calls: usize) -> Row {
-    let inputs: Vec<_> = (0..INPUTS as u64)
+    let inputs: Vec<_> = (0..rotation(count as usize * 2))
         .map(|seed| holding(count, seed))
         .collect();
     let sides = Sides {
@@ -108,8 +108,8 @@ pub fn group() -> Group {
         title: "Guards and poison",
         rows: vec![
             held_row(4, 256),
-            held_row(64, 64),
-            held_row(1024, 8),
+            held_row(64, 256),
+            held_row(1024, 64),
             poison_row(),
         ],
     }

@@ -1,7 +1,7 @@
 //! The lane calls.
 
 use super::{counted, row, Group, Row, Sides};
-use crate::inputs::{full_view, partly_attached, stale_window, Random, INPUTS};
+use crate::inputs::{full_view, partly_attached, rotation, stale_window, Random};
 use crate::measure::{Calls, Side};
 use crate::ordinary::lanes as ordinary;
 use asdrifen::{lent, Detached, View};
@@ -76,7 +76,9 @@ fn lane_row(
 
 fn views(height: u32, view: fn(u32, &mut Random) -> View) -> Vec<View> {
     let mut random = Random::new(u64::from(height));
-    (0..INPUTS).map(|_| view(height, &mut random)).collect()
+    (0..rotation(1))
+        .map(|_| view(height, &mut random))
+        .collect()
 }
 
 #[inline(never)]

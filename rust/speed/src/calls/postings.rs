@@ -3,7 +3,7 @@
 use super::jobs::{Count, Job, Prepare, Publish, PublishByValue, RemoveSources, Rollback};
 use super::states::{empty, shown, Shape, State, NOTHING};
 use super::{counted, row, Group, Row, Sides};
-use crate::inputs::{posted, Posted, Size, INPUTS};
+use crate::inputs::{posted, rotation, Posted, Size};
 use crate::measure::{Calls, Side};
 use crate::ordinary::checks::{ByHashing, ByTrees, ByWalks, Lookups};
 use crate::ordinary::tables::{LentTable, SortedVec, Table, Tree};
@@ -86,7 +86,9 @@ const fn size(capacity: u32, used: u32, changes: u32, guards: usize) -> Size {
 }
 
 fn inputs(size: Size) -> Vec<Posted> {
-    (0..INPUTS as u64).map(|seed| posted(size, seed)).collect()
+    (0..rotation(size.capacity as usize * 3))
+        .map(|seed| posted(size, seed))
+        .collect()
 }
 
 fn write_rows<J: Job>(rows: &mut Vec<Row>) {
