@@ -17,7 +17,7 @@ use Rattle.rules.specs.Limits.{mostChanges, mostGuards}
 use Rattle.rules.specs.Orders.{changes, guards, properChanges, properGuards, properLists, held, noChange}
 use Rattle.rules.specs.Checks.{heldKey}
 use Rattle.booleans.proofs.Tests.{and-left, and-right, both}
-use Rattle.checks.specs.Guarding.{keysHeld, firstUnheld}
+use Rattle.checks.specs.Guarding.{firstUnheld}
 use Rattle.refusals.specs.Lending.{LookedAt}
 use Rattle.entry.specs.declared.guarding.Wanted.{Wanted}
 use Rattle.entry.specs.Asking.{flat, wantedOf, wantedAt, wantedHeld, keysAsked, unheldFrom, unheldPlace}
