@@ -3,7 +3,7 @@ use Prim.Native.Nat.{ℕ, _+_, _<_, _≤_}
 use native.Mathlib.Omega.{arith}
 use mathlib.Core.Path.{_≡_, refl}
 use mathlib.Core.List.{List, [], _∷_}
-use mathlib.Core.Bool.{Bool, true, false, not, cond, _&&_, and-true, and-false}
+use mathlib.Core.Bool.{Bool, true, false, not, cond, _&&_, and-true, and-false, and-assoc}
 use lib.ListN.{length, drop, getD, drop-of-length-le}
 use lib.Dec.{eqb, ltb}
 use borrow.Author.Tests.{eq-eqb, ne-eqb}
@@ -38,10 +38,6 @@ not-before gs i (c ∷ cs) = go (keysHeld gs c) (not-before gs (i + 1) cs)
     go : (b : Bool) → i + 1 ≤ firstUnheld gs (i + 1) cs → i ≤ cond b (firstUnheld gs (i + 1) cs) i
     go true h = omega arith
     go false h = omega arith
-
-and-assoc : (a b c : Bool) → (a && b && c) ≡ (a && (b && c))
-and-assoc true b c = refl
-and-assoc false b c = refl
 
 -- the first change that is not guarded is the first unheld one, or one before it whose binding is not below the count
 pub unheld-known :

@@ -46,7 +46,7 @@ RemovalPromise head table c r table′ list′ = seen r table′ list′ ≡ see
 abbrev pub PublishPromise : Head → List ℕ → Call → Done → List ℕ → List ℕ → Type 0
 PublishPromise head table c r table′ list′ = seen r table′ list′ ≡ seenOf (publishOf head table c)
 
--- publish for a caller who has looked at the guards himself: the same work, after the checks beside what he says of them
+-- publish for a caller that has looked at the guards itself: the same work, after the checks beside what it says of them
 unfoldable pub guardedOf : Head → List ℕ → List ℕ → Bool → ℕ → List ℕ → List ℕ → Outcome
 guardedOf head table cs paired unheld strip list =
     decided (guardedChecks head table cs paired unheld strip list) (asBefore head table list)

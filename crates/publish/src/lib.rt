@@ -92,7 +92,7 @@ pub fn publish(
     }
 }
 
-// Publish for a caller who has looked at the guards himself, as `entry` does: he says whether they are proper, and which change
+// Publish for a caller that has looked at the guards itself, as `entry` does: it says whether they are proper, and which change
 // is the first with a key that they do not hold.
 pub fn publish_guarded(
     head: Head,

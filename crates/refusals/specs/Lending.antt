@@ -1,4 +1,4 @@
--- What a call lends beside table and head; and publish for a caller who has looked at the guards himself.
+-- What a call lends beside table and head; and publish for a caller that has looked at the guards itself.
 use Prim.Native.Nat.{ℕ}
 use mathlib.Core.Path.{_≡_}
 use mathlib.Core.List.{List, [], _∷_}
@@ -30,7 +30,7 @@ guardedChecks head table cs paired unheld strip list =
     ∷ overlapCheck (lending cs [] [] [])
     ∷ [])
 
--- what he says of the guards is true of them; beside lists that answer 3 refuses, no change need be named
+-- what it says of the guards is true of them; beside lists that answer 3 refuses, no change need be named
 pub record LookedAt (cs gs : List ℕ) (paired : Bool) (unheld : ℕ) : Type 0 where
   pub pairs : paired ≡ properGuards gs
   pub change : properLists cs gs ≡ true → unheld ≡ firstUnheld (guards gs) 0 (changes cs)

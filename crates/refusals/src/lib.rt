@@ -142,7 +142,7 @@ pub fn of_publish(
     checks::check_overlap(list)
 }
 
-// 1 to 9 for a caller who has looked at the guards himself: he says whether they are proper, and which change is the first with
+// 1 to 9 for a caller that has looked at the guards itself: it says whether they are proper, and which change is the first with
 // a key that they do not hold.
 pub fn of_guarded_publish(
     head: Head,
