@@ -19,11 +19,11 @@ unfoldable pub changes : List ℕ → List Change
 changes [] = []
 changes (binding ∷ []) = []
 changes (binding ∷ row ∷ []) = []
-changes (binding ∷ row ∷ flag ∷ []) = []
-changes (binding ∷ row ∷ flag ∷ key ∷ []) = []
-changes (binding ∷ row ∷ flag ∷ key ∷ flag′ ∷ []) = []
-changes (binding ∷ row ∷ flag ∷ key ∷ flag′ ∷ key′ ∷ rest) =
-    record { binding = binding; row = row; before = keyOf flag key; after = keyOf flag′ key′ } ∷ changes rest
+changes (binding ∷ row ∷ beforeFlag ∷ []) = []
+changes (binding ∷ row ∷ beforeFlag ∷ beforeKey ∷ []) = []
+changes (binding ∷ row ∷ beforeFlag ∷ beforeKey ∷ afterFlag ∷ []) = []
+changes (binding ∷ row ∷ beforeFlag ∷ beforeKey ∷ afterFlag ∷ afterKey ∷ rest) =
+    record { binding = binding; row = row; before = keyOf beforeFlag beforeKey; after = keyOf afterFlag afterKey } ∷ changes rest
 
 -- a flag is 0 or 1; with flag 0 the key is 0
 abbrev pub properKey : ℕ → ℕ → Bool
@@ -34,11 +34,11 @@ unfoldable pub properChanges : List ℕ → Bool
 properChanges [] = true
 properChanges (binding ∷ []) = false
 properChanges (binding ∷ row ∷ []) = false
-properChanges (binding ∷ row ∷ flag ∷ []) = false
-properChanges (binding ∷ row ∷ flag ∷ key ∷ []) = false
-properChanges (binding ∷ row ∷ flag ∷ key ∷ flag′ ∷ []) = false
-properChanges (binding ∷ row ∷ flag ∷ key ∷ flag′ ∷ key′ ∷ rest) =
-    properKey flag key && properKey flag′ key′ && properChanges rest
+properChanges (binding ∷ row ∷ beforeFlag ∷ []) = false
+properChanges (binding ∷ row ∷ beforeFlag ∷ beforeKey ∷ []) = false
+properChanges (binding ∷ row ∷ beforeFlag ∷ beforeKey ∷ afterFlag ∷ []) = false
+properChanges (binding ∷ row ∷ beforeFlag ∷ beforeKey ∷ afterFlag ∷ afterKey ∷ rest) =
+    properKey beforeFlag beforeKey && properKey afterFlag afterKey && properChanges rest
 
 -- two numbers to a guard: binding, key
 unfoldable pub guards : List ℕ → List Guard
