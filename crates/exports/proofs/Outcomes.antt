@@ -1,5 +1,5 @@
 -- One outcome for each exported call: any two results that its promise allows are equal, with every number of the lists lent for
--- writing.
+-- writing. That of poison_indexes is the entry's own: poison-one-outcome.
 use Prim.Native.Nat.{ℕ}
 use mathlib.Core.Path.{_≡_, sym, ap, _∙_}
 use mathlib.Core.List.{List, []}

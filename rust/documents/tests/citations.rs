@@ -10,8 +10,11 @@ const LEAST: [(&str, usize); 5] = [
     ("docs/CONTRACTS.md", 500),
     ("docs/DECISIONS.md", 75),
     ("docs/EXCEPTIONS.md", 40),
-    ("docs/LANDINGS.md", 120),
+    ("docs/DEMANDS.md", 450),
 ];
+
+/// Tells of each landing in the names of its time. What was renamed since then is not there.
+const A_HISTORY: &str = "docs/LANDINGS.md";
 
 /// How many names a text cites, and what of them is not there, with its line.
 fn read(repository: &Repository, text: &str) -> (usize, Vec<String>) {
@@ -31,6 +34,9 @@ fn what_documents_cite_is_there() {
     let repository = Repository::here();
     let mut all_missing = Vec::new();
     for document in repository.documents() {
+        if document == A_HISTORY {
+            continue;
+        }
         let (cited, missing) = read(&repository, &repository.text(&document));
         println!("{document}: {cited} names cited");
         all_missing.extend(missing.iter().map(|what| format!("{document}, {what}")));
