@@ -7,8 +7,8 @@ use mathlib.Core.Bool.{Bool}
 use Rattle.rules.specs.declared.Answer.{Answer}
 use Rattle.rules.specs.declared.Guard.{Guard}
 use Rattle.rules.specs.declared.Head.{Head}
-use Rattle.refusals.specs.Lending.{lending}
-use Rattle.publish.specs.declared.Done.{Done}
+use Rattle.rules.specs.Orders.{lending}
+use Rattle.rules.specs.declared.Done.{Done}
 use Rattle.publish.proofs.Outcomes.{publish-one-outcome}
 use Rattle.entry.specs.Asking.{flat}
 use Rattle.entry.specs.Promises.{PoisonPromise, HeldPromise, EntryPromise}

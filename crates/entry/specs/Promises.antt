@@ -8,10 +8,9 @@ use Rattle.rules.specs.Limits.{mostGuards}
 use Rattle.rules.specs.declared.Answer.{Answer}
 use Rattle.rules.specs.declared.Guard.{Guard}
 use Rattle.rules.specs.declared.Head.{Head}
-use Rattle.rules.specs.Orders.{held}
+use Rattle.rules.specs.Orders.{held, lending}
 use Rattle.rules.specs.Answers.{poisons}
 use Rattle.rules.specs.Calls.{headWith}
-use Rattle.refusals.specs.Lending.{lending}
 use Rattle.publish.specs.Promises.{PublishPromise, GuardedPromise}
 use Rattle.entry.specs.declared.guarding.Published.{Published}
 use Rattle.entry.specs.Asking.{flat}

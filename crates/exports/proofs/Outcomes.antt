@@ -6,7 +6,7 @@ use mathlib.Core.List.{List, []}
 use Rattle.rules.specs.declared.Guard.{Guard}
 use Rattle.rules.specs.declared.Head.{Head}
 use Rattle.rules.specs.declared.Told.{Told}
-use Rattle.rules.specs.Checks.{Call}
+use Rattle.rules.specs.Orders.{Call}
 use Rattle.publish.specs.Promises as posting
 use Rattle.lane_rules.specs.declared.View.{View}
 use Rattle.lanes.specs.Promises as lane

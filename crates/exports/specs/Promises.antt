@@ -8,10 +8,8 @@ use Rattle.rules.specs.declared.Guard.{Guard}
 use Rattle.rules.specs.declared.Head.{Head}
 use Rattle.rules.specs.declared.Told.{Told}
 use Rattle.rules.specs.Answers.{toldOf}
-use Rattle.rules.specs.Orders.{held}
-use Rattle.rules.specs.Checks.{Call}
+use Rattle.rules.specs.Orders.{held, Call, lending}
 use Rattle.rules.specs.Calls.{prepareOf, rollbackOf, removalOf, publishOf, countOf}
-use Rattle.refusals.specs.Lending.{lending}
 use Rattle.publish.specs.Promises as posting
 use Rattle.entry.specs.Asking.{flat}
 use Rattle.lane_rules.specs.declared.View.{View}

@@ -9,7 +9,7 @@ ghost use mathlib.Core.Path.{_≡_};
 ghost use mathlib.Core.List.{[]};
 ghost use mathlib.Core.Bool.{cond};
 ghost use Rattle.rules.specs.Answers.{toldOf};
-ghost use Rattle.refusals.specs.Lending.{lending};
+ghost use Rattle.rules.specs.Orders.{lending};
 ghost use Rattle.entry.specs.Promises.{PoisonPromise};
 ghost use Rattle.lanes.specs.Promises.{seen};
 ghost use Rattle.bucket_rules.specs.Answers as bucketAnswers;
@@ -31,7 +31,7 @@ pub struct Detached {
 }
 
 // The numbers of a posting call's result.
-fn posting_numbers(result: publish::Done) -> Done
+fn posting_numbers(result: rules::Done) -> Done
     ensures { λ r. ⌜ r ≡ record { head = result .head; told = toldOf (result .answer) } ⌝ }
 {
     let head = result.head;

@@ -7,12 +7,11 @@ use Rattle.rules.specs.declared.Head.{Head}
 use Rattle.rules.specs.declared.Answer.{Answer}
 use Rattle.rules.specs.declared.Told.{Told}
 use Rattle.rules.specs.Answers.{toldOf}
-use Rattle.rules.specs.Checks.{Call}
-use Rattle.rules.specs.Orders.{changes, destinations, sources}
+use Rattle.rules.specs.declared.Done.{Done}
+use Rattle.rules.specs.Orders.{changes, destinations, sources, Call, lending}
 use Rattle.rules.specs.Publication.{thenSources}
 use Rattle.rules.specs.Calls.{Outcome, asBefore, decided, shown, recordAfter, prepared, prepareOf, rollbackOf, removalOf, publishOf, countOf}
-use Rattle.refusals.specs.Lending.{lending, guardedChecks}
-use Rattle.publish.specs.declared.Done.{Done}
+use Rattle.refusals.specs.Lending.{guardedChecks}
 
 -- the numbers of the answer, the head, and every number of the table and of the record list
 pub record Seen : Type 0 where
@@ -28,10 +27,6 @@ seen r table list = record { told = toldOf (r .answer); head = r .head; table = 
 -- an outcome of the rules
 abbrev pub seenOf : Outcome → Seen
 seenOf o = record { told = toldOf (o .answer); head = o .head; table = o .table; recordList = o .recordList }
-
--- a result as an outcome of the rules
-abbrev pub outcomeOf : Done → List ℕ → List ℕ → Outcome
-outcomeOf r table list = record { answer = r .answer; head = r .head; table = table; recordList = list }
 
 -- the promises: at entry head, table and what is lent; on return the result, the table and the record list
 abbrev pub PreparePromise : Head → List ℕ → Call → Done → List ℕ → List ℕ → Type 0

@@ -19,9 +19,10 @@ use Rattle.rules.specs.Publication.{Undone, Stage, undoing, notInserted, byFaul
 use Rattle.changes.proofs.Walk.{destinations-left, destinations-none}
 use Rattle.table.specs.Holding.{Ordered}
 use Rattle.table.proofs.Keeping.{carries-postings, carries-ordered}
-use Rattle.steps.specs.declared.Inserted.{Inserted}
+use Rattle.storage.specs.declared.Inserted.{Inserted}
 use Rattle.steps.specs.declared.Reached.{Reached}
-use Rattle.steps.specs.Leaving.{InsertionIn, blamedOn, StageIn, backward, inOrder}
+use Rattle.storage.specs.Leaving.{InsertionIn}
+use Rattle.steps.specs.Leaving.{blamedOn, StageIn, backward, inOrder}
 
 -- a prepare that has come up to i, with so many postings inserted
 pub record Preparing (cs : List Change) (strip : List ℕ) (used₀ : ℕ) (t₀ t : List ℕ) (used read inserted i : ℕ) : Type 0 where
