@@ -3,3 +3,5 @@ pub mod Acceptance
 pub mod History
 pub mod Upstream
 pub mod Restores
+pub mod Leftovers
+pub mod Failures

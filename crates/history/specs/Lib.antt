@@ -2,4 +2,5 @@
 pub mod Acceptance
 pub mod History
 pub mod Upstream
+pub mod Failures
 pub mod Worked
