@@ -330,7 +330,7 @@ module _ (head : Head) (table : List ℕ) (c : Call) where
       sorted = well-formed-parts head table (publish-clear head table c (k .passes) .formed) .sorted
 
 -- the answers of a count
-count-answered :
+pub count-answered :
     (head : Head) (table : List ℕ) (binding key : ℕ) → CountAnswers head table binding key (countOf head table binding key)
 unfolding countOf
 count-answered head table binding key = go (countChecks head table binding) refl

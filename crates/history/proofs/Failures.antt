@@ -35,7 +35,9 @@ use Rattle.history.proofs.Acceptance.{stopped-fails, ready-quiet}
 use Rattle.history.proofs.Leftovers.{byte-most, halts-leaves, undoing-leaves, prepare-stops, fresh-take, fresh-at, stuck-list, stuck-each, freed-each, freed-none}
 
 -- no check refuses with a number that is neither 1 to 9 nor 14
-not-refused : {A : Type 0} (v : Verdict) (a : Answer) (n : ℕ) → isProper v ≡ true → v ≡ Verdict.Refused a → toldOf a .answer ≡ n → ((leb 1 n && leb n 9) || eqb n 14) ≡ false → A
+not-refused :
+    {A : Type 0} (v : Verdict) (a : Answer) (n : ℕ) → isProper v ≡ true → v ≡ Verdict.Refused a → toldOf a .answer ≡ n →
+    ((leb 1 n && leb n 9) || eqb n 14) ≡ false → A
 not-refused v a n p e h k = absurd (clash (isRefusal a) (refuses v a p e) (rw h k))
 
 -- an insertion that failed says 10 or 11

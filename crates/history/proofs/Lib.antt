@@ -5,3 +5,4 @@ pub mod Upstream
 pub mod Restores
 pub mod Leftovers
 pub mod Failures
+pub mod Numbers

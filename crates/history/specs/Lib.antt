@@ -3,4 +3,5 @@ pub mod Acceptance
 pub mod History
 pub mod Upstream
 pub mod Failures
+pub mod Numbers
 pub mod Worked
