@@ -9,7 +9,7 @@ use Rattle.rules.specs.Postings.{present, counted}
 use Rattle.rules.specs.Answers.{isAccepted, poisons}
 use Rattle.rules.specs.Checks.{Call}
 use Rattle.rules.specs.Calls.{Outcome, asBefore}
-use Rattle.history.specs.History.{Index, postingsIn, said, saidOf, ownCount, holding, quiet, Holds, Alike, CountSaid}
+use Rattle.history.specs.History.{Index, postingsIn, said, saidOf, ownCount, holding, quiet, AllAgain, Holds, Alike, CountSaid}
 use Rattle.publish.specs.declared.Done.{Done}
 use Rattle.publish.specs.Promises.{outcomeOf, PublishPromise, CountPromise}
 
@@ -73,8 +73,15 @@ pub record CallsRight (x : Index) (start : List Posting) (ms : List Made) : Type
   pub rows :
       (binding key : ℕ) →
       CountSaid start (calls (taken ms)) binding key (counted binding key (said (calls (taken ms)) start))
-  -- the accepted calls made again with empty strips, on a table of equal size and binding count that holds the same start, leave
+  -- the accepted calls made again with no storage failure, on a table of equal size and binding count that holds the same start, leave
   -- the same table and head, and the same answers and records on the way, number for number
+  pub again :
+      (y : Index) (more : List Made) → Holds y start → Alike x y → Run y more → AllAgain (calls (taken ms)) (calls more) →
+      end y more ≡ end x ms
+  pub againRecords :
+      (y : Index) (more : List Made) → Holds y start → Alike x y → Run y more → AllAgain (calls (taken ms)) (calls more) →
+      seenAfter more ≡ seenAfter (taken ms)
+  -- so do they with empty strips
   pub replay :
       (y : Index) (ns : List Made) → Holds y start → Alike x y → Run y ns → calls ns ≡ map quiet (calls (taken ms)) →
       end y ns ≡ end x ms
