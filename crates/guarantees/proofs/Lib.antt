@@ -5,3 +5,4 @@ pub mod Failures
 pub mod Numbers
 pub mod History
 pub mod Upstream
+pub mod Exported
