@@ -35,27 +35,26 @@ byte-most [] i h = omega arith
 byte-most (b ∷ bs) zero h = leb-true b 2 (and-left (leb b 2) (properBytes bs) h)
 byte-most (b ∷ bs) (suc i) h = byte-most bs i (and-right (leb b 2) (properBytes bs) h)
 
--- source removal that fails at a place
-gone-next : (byte j : ℕ) → goneAt byte (suc j) ≡ suc (goneAt byte j)
-gone-next byte j = go (eqb byte 2)
+-- a byte of a removal that failed is 1 or 2
+failed-byte : (byte : ℕ) → (byte ≡ 0 → ⊥) → byte ≤ 2 → (byte ≡ 1) ⊎ (byte ≡ 2)
+failed-byte byte h k = go (either (eqb byte 2))
   where
-    go : (b : Bool) → cond b (suc j + 1) (suc j) ≡ suc (cond b (j + 1) j)
-    go true = omega arith
-    go false = refl
+    go : (eqb byte 2 ≡ true) ⊎ (eqb byte 2 ≡ false) → (byte ≡ 1) ⊎ (byte ≡ 2)
+    go (inl e) = inr (eqb-true byte 2 e)
+    go (inr e) = let n = eqb-false byte 2 e in inl (omega arith)
 
+gone-next : (byte j : ℕ) → (byte ≡ 1) ⊎ (byte ≡ 2) → goneAt byte (suc j) ≡ suc (goneAt byte j)
+gone-next byte j (inl e) = rw e (omega arith)
+gone-next byte j (inr e) = rw e (omega arith)
+
+-- source removal that fails at a place
 module _ (strip : List ℕ) (clear : Answer) where
   halts-here :
-      (d : Numbered) (ds : List Numbered) (byte : ℕ) (ps : List Posting) → (byte ≡ 0 → ⊥) → byte ≤ 2 →
+      (d : Numbered) (ds : List Numbered) (byte : ℕ) (ps : List Posting) → (byte ≡ 1) ⊎ (byte ≡ 2) →
       removal byte (d .posting) ps .postings ≡ takenAway (take (goneAt byte 0) (d ∷ ds)) ps
   unfolding removal takenAway
-  halts-here d ds byte ps h k = go (eqb byte 2) refl
-    where
-      go : (b : Bool) → eqb byte 2 ≡ b → removal byte (d .posting) ps .postings ≡ takenAway (take (cond b (0 + 1) 0) (d ∷ ds)) ps
-      go true e = rw (eqb-true byte 2 e)
-      go false e =
-          let n = eqb-false byte 2 e in
-          let one : byte ≡ 1 = omega arith in
-          rw one
+  halts-here d ds byte ps (inl e) = rw e
+  halts-here d ds byte ps (inr e) = rw e
 
   pub halts-leaves :
       (items : List Numbered) (read j : ℕ) (ps : List Posting) → j < length items → Quiet strip read (read + j) →
@@ -65,10 +64,12 @@ module _ (strip : List ℕ) (clear : Answer) where
   halts-leaves [] read j ps l q f m = absurd (omega arith)
   halts-leaves (d ∷ ds) read zero ps l q f m =
       let e : read + 0 ≡ read = omega arith in
-      rw (e, removing-fails strip d ds read ps clear (rw e at f)) (halts-here d ds (byteAt strip read) ps (rw e at f) (rw e at m))
+      let b = failed-byte (byteAt strip (read + 0)) f m in
+      rw (e, removing-fails strip d ds read ps clear (rw e at f)) (halts-here d ds (byteAt strip read) ps (rw e at b))
   halts-leaves (d ∷ ds) read (suc j) ps l q f m =
       let e : read + 1 + j ≡ read + suc j = omega arith in
-      rw (removing-clear strip d ds read ps clear (q read (omega arith) (omega arith)), gone-next (byteAt strip (read + suc j)) j)
+      let b = failed-byte (byteAt strip (read + suc j)) f m in
+      rw (removing-clear strip d ds read ps clear (q read (omega arith) (omega arith)), gone-next (byteAt strip (read + suc j)) j b)
       (rw e at (halts-leaves ds (read + 1) j (removed (d .posting) ps) (omega arith) (λ i h k. q i (omega arith) (omega arith)) (rw (sym e) at f) (rw (sym e) at m)))
 
 -- two removals in either order
