@@ -20,7 +20,7 @@ carried :
 carried P n r t l o e f = of-result (λ (x : Outcome). toldOf (x .answer) .answer ≡ n → P x) r t l o e f
 
 module _ (head : Head) (table : List ℕ) (c : Call) (r : Done) (t l : List ℕ) where
-  -- 13
+  -- 13: of publish and of source removal
   pub publish-source-leaves :
       PublishPromise head table c r t l → toldOf (r .answer) .answer ≡ 13 → PublishSourceLeaves head table c (outcomeOf r t l)
   publish-source-leaves k = carried (PublishSourceLeaves head table c) 13 r t l (publishOf head table c) k (law.publish-source-leaves head table c)
@@ -29,7 +29,7 @@ module _ (head : Head) (table : List ℕ) (c : Call) (r : Done) (t l : List ℕ)
       RemovalPromise head table c r t l → toldOf (r .answer) .answer ≡ 13 → RemovalSourceLeaves head table c (outcomeOf r t l)
   removal-source-leaves k = carried (RemovalSourceLeaves head table c) 13 r t l (removalOf head table c) k (law.removal-source-leaves head table c)
 
-  -- 12
+  -- 12: of prepare, of publish and of rollback
   pub prepare-undo-leaves :
       PreparePromise head table c r t l → toldOf (r .answer) .answer ≡ 12 → UndoLeaves head table c (outcomeOf r t l)
   prepare-undo-leaves k = carried (UndoLeaves head table c) 12 r t l (prepareOf head table c) k (law.prepare-undo-leaves head table c)

@@ -15,6 +15,7 @@ use Rattle.publish.specs.Promises.{PreparePromise, RollbackPromise, RemovalProm
 use Rattle.guarantees.proofs.Acceptance.{answer-of}
 
 module _ (head : Head) (table : List ℕ) (c : Call) (r : Done) (t l : List ℕ) where
+  -- prepare, rollback, source removal, publish
   pub prepare-among : PreparePromise head table c r t l → among (toldOf (r .answer) .answer) prepareNumbers ≡ true
   prepare-among k = rw (answer-of r t l (prepareOf head table c) k) (law.prepare-among head table c)
 
@@ -27,6 +28,7 @@ module _ (head : Head) (table : List ℕ) (c : Call) (r : Done) (t l : List ℕ)
   pub publish-among : PublishPromise head table c r t l → among (toldOf (r .answer) .answer) publishNumbers ≡ true
   publish-among k = rw (answer-of r t l (publishOf head table c) k) (law.publish-among head table c)
 
+-- count
 pub count-among :
     (head : Head) (table : List ℕ) (binding key : ℕ) (a : Answer) → CountPromise head table binding key a →
     among (toldOf a .answer) countNumbers ≡ true

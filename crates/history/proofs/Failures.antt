@@ -72,6 +72,7 @@ module _ (head : Head) (table : List ℕ) (c : Call) where
       (list : List ℕ) (a : Answer) (ps : List Posting) (o : Outcome) → o ≡ poisonedWith head table list a ps → postingsLeft o ≡ ps
   poisoned-left list a ps o e = rw e (postings-laid-out (length table) ps)
 
+  -- an outcome that is the one told is what the failure leaves
   source-leaves :
       (list : List ℕ) (ds : List Numbered) (j : ℕ) (o : Outcome) → j < length (leaving c) → Quiet (c .strip) 0 (length ds + j) →
       (byteAt (c .strip) (length ds + j) ≡ 0 → ⊥) →
@@ -124,7 +125,7 @@ module _ (head : Head) (table : List ℕ) (c : Call) where
           ∙ shown-poisoned _ (removedAlone head table c) _ _ (r .answers) refl
           (halts-leaves (c .strip) _ (leaving c) 0 (r .at) _ (r .there) (r .quiet) (r .fault) (removal-bytes e _)))
 
-  -- of a prepare that stopped and whose undo failed
+  -- the postings that a prepare which stopped leaves
   stopped-list :
       Clear head table c → (s : IsStopped head table c) →
       prepared head table c .postings ≡ added (stuck (c .strip) (s .at + 1) (take (s .at) (going c))) (start head table)
@@ -149,6 +150,7 @@ module _ (head : Head) (table : List ℕ) (c : Call) where
       ap (present p) (poisoned-left (c .recordList) a _ o e)
       ∙ present-added p (stuck (c .strip) (j + 1) (take j (going c))) (start head table)
 
+  -- each of these destinations by its own byte
   undo-each :
       Clear head table c → (j : ℕ) (a : Answer) (o : Outcome) →
       o ≡ poisonedWith head table (c .recordList) a (added (stuck (c .strip) (j + 1) (take j (going c))) (start head table)) →
@@ -163,6 +165,7 @@ module _ (head : Head) (table : List ℕ) (c : Call) where
       ∙ rw (fresh-at (going c) (start head table) (k .fresh) i (omega arith))
       (rw (n, g) at (stuck-each (c .strip) (j + 1) (take j (going c)) (start head table) f i m))
 
+  -- a stopped prepare that says 12, as prepare and publish show it
   undo-leaves :
       Clear head table c → (s : IsStopped head table c) → (o : Outcome) → o ≡ shown head table (c .recordList) (prepared head table c) →
       toldOf (o .answer) .answer ≡ 12 → UndoLeaves head table c o
@@ -207,7 +210,7 @@ module _ (head : Head) (table : List ℕ) (c : Call) where
       go o n (Published.halted e r l k) = let z : _≡_ {A = ℕ} 13 12 = rw (k, l .answers) at n in absurd (omega arith)
       go o n (Published.stopped e s k) = undo-leaves (publish-clear head table c e) s o k n
 
-  -- 12 of rollback
+  -- the postings at entry without the recorded destinations whose byte is not 1
   rollback-set :
       (a : Answer) (o : Outcome) →
       o ≡ poisonedWith head table (c .recordList) a (takenAway (freed (c .strip) 0 (recordedIn c)) (start head table)) →
@@ -217,6 +220,7 @@ module _ (head : Head) (table : List ℕ) (c : Call) where
       ap (present p) (poisoned-left (c .recordList) a _ o e)
       ∙ present-taken-away p (freed (c .strip) 0 (recordedIn c)) (start head table)
 
+  -- 12 of rollback
   pub rollback-undo-leaves :
       toldOf (rollbackOf head table c .answer) .answer ≡ 12 → RollbackLeaves head table c (rollbackOf head table c)
   rollback-undo-leaves h = go (rollbackOf head table c) h (rolls-back head table c)
