@@ -23,6 +23,14 @@ by-both P Said.Yes x y y′ z f g h = f
 by-both P Said.No x y y′ z f g h = g
 by-both P Said.Error x y y′ z f g h = h
 
+-- two choices by one word stand to each other as each pair of their cases does
+pub by-pairs :
+    {A : Type 0} (P : A → A → Type 0) (s : Said) {x x′ y y′ z z′ : A} → (s ≡ Said.Yes → P x x′) → (s ≡ Said.No → P y y′) →
+    (s ≡ Said.Error → P z z′) → P (bySaid s x y z) (bySaid s x′ y′ z′)
+by-pairs P Said.Yes f g h = f refl
+by-pairs P Said.No f g h = g refl
+by-pairs P Said.Error f g h = h refl
+
 -- a yes is not a no
 pub yes-not-no : Said.Yes ≡ Said.No → ⊥
 yes-not-no e = let z : _≡_ {A = ℕ} 0 1 = cc in omega arith
@@ -48,3 +56,15 @@ pub yes-told : (s : Said) → bySaid s (Answer.Accepted 1) (Answer.Accepted 0) (
 yes-told Said.Yes e = refl
 yes-told Said.No e = let z : _≡_ {A = ℕ} 0 1 = cc in absurd (omega arith)
 yes-told Said.Error e = let z : _≡_ {A = ℕ} 0 1 = cc in absurd (omega arith)
+
+-- and 0 where it says no only
+pub no-told : (s : Said) → bySaid s (Answer.Accepted 1) (Answer.Accepted 0) (Answer.Offset 0) ≡ Answer.Accepted 0 → s ≡ Said.No
+no-told Said.Yes e = let z : _≡_ {A = ℕ} 0 1 = cc in absurd (omega arith)
+no-told Said.No e = refl
+no-told Said.Error e = let z : _≡_ {A = ℕ} 0 1 = cc in absurd (omega arith)
+
+-- and is 24 where it says error only
+pub error-told : (s : Said) → bySaid s (Answer.Accepted 1) (Answer.Accepted 0) (Answer.Offset 0) ≡ Answer.Offset 0 → s ≡ Said.Error
+error-told Said.Yes e = let z : _≡_ {A = ℕ} 0 1 = cc in absurd (omega arith)
+error-told Said.No e = let z : _≡_ {A = ℕ} 0 1 = cc in absurd (omega arith)
+error-told Said.Error e = refl

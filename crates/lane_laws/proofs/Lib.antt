@@ -10,3 +10,4 @@ pub mod Yes
 pub mod Live
 pub mod Slow
 pub mod Upstream
+pub mod Windows

@@ -2,3 +2,4 @@
 pub mod Clauses
 pub mod Ends
 pub mod Slow
+pub mod Windows
