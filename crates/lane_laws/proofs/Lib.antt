@@ -7,6 +7,7 @@ pub mod Frames
 pub mod Sweep
 pub mod Exactly
 pub mod Yes
+pub mod No
 pub mod Live
 pub mod Slow
 pub mod Upstream
