@@ -8,6 +8,7 @@ pub mod Sweep
 pub mod Exactly
 pub mod Yes
 pub mod No
+pub mod Numbers
 pub mod Live
 pub mod Slow
 pub mod Upstream

@@ -1,10 +1,10 @@
 -- The words in which the laws say how a pass and a detach end.
 use Prim.Native.Nat.{ℕ, zero, suc, _+_, _-_, _/_, _≤_, _<_}
 use mathlib.Core.Path.{_≡_}
-use mathlib.Core.List.{List}
+use mathlib.Core.List.{List, [], _∷_}
 use mathlib.Core.Bool.{true, false, cond}
 use mathlib.Core.Logic.{_⊎_}
-use lib.ListN.{length}
+use lib.ListN.{length, getD}
 use Rattle.strips.specs.Strips.{byteAt}
 use Rattle.masks.specs.Masks.{laneIn}
 use Rattle.lane_rules.specs.declared.View.{View}
@@ -129,3 +129,19 @@ pub record Retired (o : Done) : Type 0 where
 -- the rounds that a detach makes where enough are lent
 abbrev pub roundsNeeded : View → List ℕ → ℕ
 roundsNeeded v strip = toldOf (detachOf v strip (length strip / 2 + 2) .answer) .value
+
+-- one of these numbers
+abbrev pub OneOf : List ℕ → ℕ → Type 0
+OneOf numbers n = (i : ℕ) × (i < length numbers) × (getD numbers i 0 ≡ n)
+
+-- the numbers that a cached pass answers with
+abbrev pub cachedNumbers : List ℕ
+cachedNumbers = 0 ∷ 20 ∷ 21 ∷ 23 ∷ 24 ∷ []
+
+-- and a refreshed pass
+abbrev pub refreshedNumbers : List ℕ
+refreshedNumbers = 0 ∷ 20 ∷ 21 ∷ 22 ∷ 23 ∷ 24 ∷ []
+
+-- and a detach
+abbrev pub detachNumbers : List ℕ
+detachNumbers = 0 ∷ 20 ∷ 21 ∷ 23 ∷ 24 ∷ 25 ∷ []
