@@ -2,10 +2,15 @@
 use Prim.Native.Nat.{ℕ}
 use native.Mathlib.Omega.{arith}
 use mathlib.Core.Path.{_≡_, refl, ap}
+use mathlib.Core.Bool.{true, false}
+use lib.Dec.{leb}
+use borrow.Author.Tests.{ne-eqb, leb-true}
+use Rattle.booleans.proofs.Tests.{and-left}
 use Rattle.lane_rules.specs.declared.Said.{Said}
 use Rattle.lane_rules.specs.declared.Answer.{Answer}
-use Rattle.lane_rules.specs.Answers.{toldOf}
+use Rattle.lane_rules.specs.Answers.{toldOf, isAccepted}
 use Rattle.lane_rules.specs.Passes.{bySaid}
+use Rattle.lane_laws.specs.Clauses.{isRefusal}
 
 -- what holds in all three cases holds of the choice
 pub by-said :
@@ -50,6 +55,13 @@ error-not-no e = let z : _≡_ {A = ℕ} 0 1 = cc in omega arith
 -- answers with different numbers are different
 pub other-number : {a b : Answer} → a ≡ b → (toldOf a .answer ≡ toldOf b .answer → ⊥) → ⊥
 other-number e f = f (ap (λ (a : Answer). toldOf a .answer) e)
+
+-- a refusal is not accepted
+pub refusal-not-accepted : (a : Answer) → isRefusal a ≡ true → isAccepted a ≡ false
+refusal-not-accepted a h =
+    let number = toldOf a .answer in
+    let low = leb-true 20 number (and-left (leb 20 number) (leb number 23) h) in
+    ne-eqb number 0 (λ e. omega arith)
 
 -- a pass tells 1 where it says yes only
 pub yes-told : (s : Said) → bySaid s (Answer.Accepted 1) (Answer.Accepted 0) (Answer.Offset 0) ≡ Answer.Accepted 1 → s ≡ Said.Yes
