@@ -20,7 +20,8 @@ use Rattle.lane_rules.specs.Passes.{cachedPass}
 use Rattle.lane_rules.specs.Rounds.{round, rounds, detaching}
 use Rattle.lane_rules.specs.Calls.{detachChecks, ended, unlessRefused, detachOf}
 use Rattle.lane_laws.specs.Clauses.{AllBelow, isRefusal}
-use Rattle.lane_laws.specs.Ends.{detachWork, Clean, Ends, yes, error, spent, NoErrors, MetNoError, HadRounds, Retired, roundsNeeded}
+use Rattle.lane_laws.specs.Ends.{detachWork, NoErrors, Clean, Ends, yes, error, spent, MetNoError, HadRounds, Retired}
+use Rattle.lane_laws.specs.Ends.{roundsNeeded}
 use Rattle.lane_laws.proofs.Cases.{by-said, by-both, other-number, refusal-not-accepted}
 use Rattle.lane_laws.proofs.Reading.{round-no-reads}
 use Rattle.lane_laws.proofs.Entry.{detach-passes}
