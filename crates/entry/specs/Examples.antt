@@ -1,7 +1,7 @@
 -- Small cases of the guards by computation: their limit, and that repeats, any order and any binding are allowed.
 use Prim.Native.Nat.{ℕ}
 use mathlib.Core.Path.{_≡_, refl}
-use mathlib.Core.List.{List, [], _∷_, _++_}
+use mathlib.Core.List.{[], _∷_, _++_}
 use mathlib.Core.Bool.{true, false}
 use lib.ListN.{replicate}
 use Rattle.rules.specs.declared.Guard.{Guard}

@@ -146,8 +146,8 @@ pub high-window :
 unfolding computing
 high-window = refl
 
--- height 32 is accepted: all lanes in no round, the top lane alone, two rounds for the lanes outside the window, and an error behind
--- a refresh that cleared lane 0; heights 33 and 0 are refused
+-- height 32 is accepted: all lanes in no round, the top lane alone, two rounds for the lanes outside the window, and an error
+-- behind a refresh that cleared lane 0; heights 33 and 0 are refused
 pub full-height :
     Hold
     (cachedOf (view 32 allLanes allLanes) [] gives row 0 1 0 allLanes 0
