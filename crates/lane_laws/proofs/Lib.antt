@@ -10,6 +10,7 @@ pub mod Yes
 pub mod No
 pub mod Numbers
 pub mod Live
+pub mod Places
 pub mod Slow
-pub mod Upstream
 pub mod Windows
+pub mod Upstream

@@ -16,6 +16,7 @@ use Rattle.lane_rules.specs.Calls.{detachChecks, refreshedChecks, cachedOf, ref
 use Rattle.lane_laws.specs.Clauses.{NoneBelow, PassClauses, RefreshedClauses, DetachClauses}
 use Rattle.lane_laws.specs.Ends.{detachWork, NoErrors, Clean, AllCleared, SomeNo, SomeError, lanesTried, MetNoError, HadRounds}
 use Rattle.lane_laws.specs.Ends.{Retired, roundsNeeded, OneOf, cachedNumbers, refreshedNumbers, detachNumbers}
+use Rattle.lane_laws.specs.Places.{CachedAnswers, RefreshedAnswers, DetachAnswers}
 use Rattle.lane_laws.specs.Windows.{withWindow, AlikeBelow, SameButWindow, SetsWindow}
 use Rattle.lane_laws.proofs.Exactly as exactly
 use Rattle.lane_laws.proofs.Yes as yes
@@ -23,6 +24,7 @@ use Rattle.lane_laws.proofs.No as no
 use Rattle.lane_laws.proofs.Numbers as numbers
 use Rattle.lane_laws.proofs.Live as live
 use Rattle.lane_laws.proofs.Slow as slow
+use Rattle.lane_laws.proofs.Places as places
 use Rattle.lane_laws.proofs.Windows as windows
 use Rattle.lane_laws.proofs.Upstream as upstream
 use Rattle.lanes.specs.Promises.{CachedPromise, RefreshedPromise, DetachPromise}
@@ -36,6 +38,10 @@ module _ (v : View) (strip : List ℕ) (r : Done) (p : CachedPromise v strip r) 
   -- upstream's clauses of the cached pass
   pub cached-clauses : PassClauses v r
   cached-clauses = cached-so (PassClauses v) (upstream.cached-clauses v strip)
+
+  -- each of its answers exactly in its place
+  pub cached-exactly : (a : Answer) → (r .answer ≡ a) ↔ CachedAnswers v strip a
+  cached-exactly a = cached-so (λ (o : Done). (o .answer ≡ a) ↔ CachedAnswers v strip a) (places.cached-exactly v strip a)
 
   -- it answers with 0, 20, 21, 23 or 24
   pub cached-numbers : OneOf cachedNumbers (toldOf (r .answer) .answer)
@@ -74,6 +80,11 @@ module _ (v : View) (strip : List ℕ) (r : Done) (p : RefreshedPromise v strip 
   -- upstream's clauses of the refreshed pass
   pub refreshed-clauses : RefreshedClauses v r
   refreshed-clauses = refreshed-so (RefreshedClauses v) (upstream.refreshed-clauses v strip)
+
+  -- each of its answers exactly in its place
+  pub refreshed-exactly : (a : Answer) → (r .answer ≡ a) ↔ RefreshedAnswers v strip a
+  refreshed-exactly a =
+      refreshed-so (λ (o : Done). (o .answer ≡ a) ↔ RefreshedAnswers v strip a) (places.refreshed-exactly v strip a)
 
   -- it answers with 0 or 20 to 24
   pub refreshed-numbers : OneOf refreshedNumbers (toldOf (r .answer) .answer)
@@ -151,6 +162,10 @@ module _ (v : View) (strip : List ℕ) (lent : ℕ) (r : Done) (p : DetachPromis
   budget-exactly =
       so (λ (o : Done). ((n : ℕ) × (o .answer ≡ Answer.Budget n)) ↔ (lent < roundsNeeded v strip))
       (live.budget-exactly v strip lent)
+
+  -- each of its answers exactly in its place
+  pub detach-exactly : (a : Answer) → (r .answer ≡ a) ↔ DetachAnswers v strip lent a
+  detach-exactly a = so (λ (o : Done). (o .answer ≡ a) ↔ DetachAnswers v strip lent a) (places.detach-exactly v strip lent a)
 
   -- it answers with 0, 20, 21, 23, 24 or 25
   pub detach-numbers : OneOf detachNumbers (toldOf (r .answer) .answer)
