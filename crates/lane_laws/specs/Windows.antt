@@ -18,7 +18,7 @@ withWindow v window = viewWith v (v .attached) window (v .retired)
 abbrev pub AlikeBelow : ℕ → ℕ → ℕ → Type 0
 AlikeBelow height a b = lanesBelow a height ≡ lanesBelow b height
 
--- two results differ in the window that they hand back, and in nothing else
+-- two results differ at most in the window that they hand back
 pub record SameButWindow (a b : Done) : Type 0 where
   pub answer : b .answer ≡ a .answer
   pub height : b .view .height ≡ a .view .height
