@@ -52,10 +52,6 @@ first-one : (v : Verdict) → firstRefusal (v ∷ []) ≡ v
 unfolding firstRefusal
 first-one v = else-passes v
 
-first-cons : (v : Verdict) (vs : List Verdict) → firstRefusal (v ∷ vs) ≡ andThen v (firstRefusal vs)
-unfolding firstRefusal andThen
-first-cons v vs = refl
-
 -- two checks, then others
 first-two :
     (u v : Verdict) (vs : List Verdict) → firstRefusal (u ∷ v ∷ vs) ≡ andThen (firstRefusal (u ∷ v ∷ [])) (firstRefusal vs)
