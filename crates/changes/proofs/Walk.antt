@@ -52,33 +52,27 @@ pub change-read :
 unfolding changeOf
 change-read l i h = let n : i * 6 + 0 ≡ i * 6 = omega arith in change-of l i h ∙ simp (getD-drop, n)
 
-pub change-left : (cs : List Change) (i : ℕ) → i < length cs → drop i cs ≡ getD cs i noChange ∷ drop (i + 1) cs
-change-left cs i h = item-left noChange cs i h
-
-pub drop-all : (cs : List Change) (i : ℕ) → length cs ≤ i → drop i cs ≡ []
-drop-all cs i h = drop-of-length-le cs h
-
 pub destinations-left :
     (cs : List Change) (i : ℕ) → i < length cs →
     destinationsFrom i (drop i cs) ≡ named i (getD cs i noChange) (destinationOf (getD cs i noChange))
     (destinationsFrom (i + 1) (drop (i + 1) cs))
 unfolding destinationsFrom
-destinations-left cs i h = rw (change-left cs i h)
+destinations-left cs i h = rw (item-left noChange cs i h)
 
 pub sources-left :
     (cs : List Change) (i : ℕ) → i < length cs →
     sourcesFrom i (drop i cs) ≡ named i (getD cs i noChange) (sourceOf (getD cs i noChange))
     (sourcesFrom (i + 1) (drop (i + 1) cs))
 unfolding sourcesFrom
-sources-left cs i h = rw (change-left cs i h)
+sources-left cs i h = rw (item-left noChange cs i h)
 
 pub destinations-none : (cs : List Change) (i : ℕ) → length cs ≤ i → destinationsFrom i (drop i cs) ≡ []
 unfolding destinationsFrom
-destinations-none cs i h = rw (drop-all cs i h)
+destinations-none cs i h = rw (drop-of-length-le cs h)
 
 pub sources-none : (cs : List Change) (i : ℕ) → length cs ≤ i → sourcesFrom i (drop i cs) ≡ []
 unfolding sourcesFrom
-sources-none cs i h = rw (drop-all cs i h)
+sources-none cs i h = rw (drop-of-length-le cs h)
 
 -- one more change at the end
 pub destinations-last :
