@@ -22,6 +22,7 @@ use Rattle.table.proofs.Keeping.{carries-postings, carries-ordered}
 use Rattle.steps.specs.declared.Inserted.{Inserted}
 use Rattle.steps.specs.declared.Reached.{Reached}
 use Rattle.steps.specs.Leaving.{InsertionIn, blamedOn, StageIn, backward, inOrder}
+use Rattle.steps.proofs.Undos.{backward-none}
 
 -- a prepare that has come up to i, with so many postings inserted
 pub record Preparing (cs : List Change) (strip : List ℕ) (used₀ : ℕ) (t₀ t : List ℕ) (used read inserted i : ℕ) : Type 0 where
@@ -44,10 +45,6 @@ preparing-step :
 unfolding preparing
 preparing-step capacity strip d ds done read ps = refl
 
-none-back : (cs : List Change) → [] ≡ backward inOrder 0 cs
-unfolding backward
-none-back cs = refl
-
 pub prepare-start :
     (cs : List Change) (strip : List ℕ) (used : ℕ) (t : List ℕ) → Ordered t used → Preparing cs strip used t t used 0 0 0
 prepare-start cs strip used t h =
@@ -55,10 +52,10 @@ prepare-start cs strip used t h =
       low = omega arith;
       few = omega arith;
       some = omega arith;
-      count = ap length (none-back cs);
+      count = ap length (backward-none inOrder cs);
       len = refl;
       ordered = h;
-      is = ap (λ done. preparing (capacity t) strip (destinationsFrom 0 cs) done 0 (postings used t)) (none-back cs);
+      is = ap (λ done. preparing (capacity t) strip (destinationsFrom 0 cs) done 0 (postings used t)) (backward-none inOrder cs);
     }
 
 -- no fault is blamed on no change, and the blame that there is ends the prepare

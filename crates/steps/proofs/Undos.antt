@@ -19,6 +19,7 @@ use Rattle.rules.specs.Storage.{removal}
 use Rattle.rules.specs.Postings.{every}
 use Rattle.rules.specs.Publication.{Undone, undoing, whyNot, notInserted}
 use Rattle.booleans.proofs.Tests.{and-left, and-right}
+use Rattle.changes.proofs.Walk.{named-append}
 use Rattle.table.specs.Holding.{Ordered}
 use Rattle.table.proofs.Keeping.{carries-postings, carries-ordered}
 use Rattle.steps.specs.declared.Removed.{Removed}
@@ -79,6 +80,11 @@ pub record Undoing (number : ℕ → ℕ) (cs : List Change) (strip : List ℕ) 
       undoing strip (backward number n cs) Verdict.Passes read (postings used t₀) ≡
       undoing strip (backward number i cs) (b .verdict) (b .read) (postings (b .used) t)
 
+-- no change, and one change further
+pub backward-none : (number : ℕ → ℕ) (cs : List Change) → [] ≡ backward number 0 cs
+unfolding backward
+backward-none number cs = refl
+
 backward-next :
     (number : ℕ → ℕ) (cs : List Change) (i : ℕ) → 0 < i →
     backward number i cs ≡ named (number (i - 1)) (getD cs (number (i - 1)) noChange)
@@ -131,11 +137,6 @@ named-reverse n c Key.Missing ds = sym (append-nil (reverse ds))
 named-reverse n c (Key.Named key) ds =
     reverseAux-eq ds (record { number = n; posting = record { binding = c .binding; key = key; row = c .row } } ∷ [])
 
-named-append :
-    (n : ℕ) (c : Change) (k : Key) (ds es : List Numbered) → named n c k ds ++ es ≡ named n c k (ds ++ es)
-named-append n c Key.Missing ds es = refl
-named-append n c (Key.Named key) ds es = refl
-
 backward-last :
     (cs : List Change) (n : ℕ) (ns : List ℕ) (i : ℕ) →
     backward (asRecorded (n ∷ ns)) (suc i) cs ≡
@@ -149,13 +150,9 @@ backward-last cs n ns (suc i) =
     (named-append k (getD cs k noChange) (destinationOf (getD cs k noChange)) (backward (asRecorded ns) i cs)
     (named n (getD cs n noChange) (destinationOf (getD cs n noChange)) []))
 
-backward-none : (cs : List Change) → [] ≡ backward (asRecorded []) 0 cs
-unfolding backward
-backward-none cs = refl
-
 pub recorded-backward : (cs : List Change) (ns : List ℕ) → reverse (recorded cs ns) ≡ backward (asRecorded ns) (length ns) cs
 unfolding recorded
-recorded-backward cs [] = backward-none cs
+recorded-backward cs [] = backward-none (asRecorded []) cs
 recorded-backward cs (n ∷ ns) =
     named-reverse n (getD cs n noChange) (destinationOf (getD cs n noChange)) (recorded cs ns)
     ∙ (ap (λ ds. ds ++ named n (getD cs n noChange) (destinationOf (getD cs n noChange)) []) (recorded-backward cs ns)
