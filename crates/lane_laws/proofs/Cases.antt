@@ -1,7 +1,6 @@
 -- Cases on what a compare or a pass says, and how the answers are told apart.
-use Prim.Native.Nat.{ℕ}
-use native.Mathlib.Omega.{arith}
 use mathlib.Core.Path.{_≡_, refl, ap}
+use Rattle.booleans.proofs.Tests.{impossible}
 use Rattle.lane_rules.specs.declared.Said.{Said}
 use Rattle.lane_rules.specs.declared.Answer.{Answer}
 use Rattle.lane_rules.specs.Answers.{toldOf}
@@ -25,19 +24,19 @@ by-both P Said.Error x y y′ z f g h = h
 
 -- a yes is not a no
 pub yes-not-no : Said.Yes ≡ Said.No → ⊥
-yes-not-no e = let z : _≡_ {A = ℕ} 0 1 = cc in omega arith
+yes-not-no e = impossible (cc)
 
 -- a no is not a yes
 pub no-not-yes : Said.No ≡ Said.Yes → ⊥
-no-not-yes e = let z : _≡_ {A = ℕ} 0 1 = cc in omega arith
+no-not-yes e = impossible (cc)
 
 -- an error is not a yes
 pub error-not-yes : Said.Error ≡ Said.Yes → ⊥
-error-not-yes e = let z : _≡_ {A = ℕ} 0 1 = cc in omega arith
+error-not-yes e = impossible (cc)
 
 -- an error is not a no
 pub error-not-no : Said.Error ≡ Said.No → ⊥
-error-not-no e = let z : _≡_ {A = ℕ} 0 1 = cc in omega arith
+error-not-no e = impossible (cc)
 
 -- answers with different numbers are different
 pub other-number : {a b : Answer} → a ≡ b → (toldOf a .answer ≡ toldOf b .answer → ⊥) → ⊥
@@ -46,5 +45,5 @@ other-number e f = f (ap (λ (a : Answer). toldOf a .answer) e)
 -- a pass tells 1 where it says yes only
 pub yes-told : (s : Said) → bySaid s (Answer.Accepted 1) (Answer.Accepted 0) (Answer.Offset 0) ≡ Answer.Accepted 1 → s ≡ Said.Yes
 yes-told Said.Yes e = refl
-yes-told Said.No e = let z : _≡_ {A = ℕ} 0 1 = cc in absurd (omega arith)
-yes-told Said.Error e = let z : _≡_ {A = ℕ} 0 1 = cc in absurd (omega arith)
+yes-told Said.No e = impossible (cc)
+yes-told Said.Error e = impossible (cc)

@@ -20,7 +20,7 @@ use Rattle.rules.specs.Table.{postings, wellFormed}
 use Rattle.rules.specs.Orders.{Numbered, named, destinationOf, destinationsFrom, destinations, sources, postingsOf, properLists}
 use Rattle.rules.specs.Checks.{Call, changesOf, must, orElse, firstRefusal, tableCheck, poisonCheck, listCheck, stripCheck, roomCheck, heldKey, guarded, firstFailing, guardCheck, recordable, among, recordFrom, recordCheck, equalTo, twiceFrom, twiceCheck, presentCheck, overlapCheck, prepareChecks, rollbackChecks, removalChecks, publishChecks}
 use Rattle.laws.specs.Words.{isRefusal}
-use Rattle.booleans.proofs.Tests.{and-left, both, neither}
+use Rattle.booleans.proofs.Tests.{impossible, and-left, both, neither}
 use Rattle.laws.proofs.Ranks.{same-turned}
 use Rattle.laws.proofs.Lists.{present-inserted, or-swap}
 use Rattle.laws.proofs.Prepare.{Fresh}
@@ -28,7 +28,7 @@ use Rattle.laws.proofs.Prepare.{Fresh}
 -- verdicts
 pub must-holds : (b : Bool) (a : Answer) → must b a ≡ Verdict.Passes → b ≡ true
 must-holds true a h = refl
-must-holds false a h = let z : _≡_ {A = ℕ} 0 1 = cc in absurd (omega arith)
+must-holds false a h = impossible (cc)
 
 pub else-first : (v w : Verdict) → orElse v w ≡ Verdict.Passes → v ≡ Verdict.Passes
 else-first Verdict.Passes w h = refl
@@ -36,7 +36,7 @@ else-first (Verdict.Refused a) w h = h
 
 pub else-second : (v w : Verdict) → orElse v w ≡ Verdict.Passes → w ≡ Verdict.Passes
 else-second Verdict.Passes w h = h
-else-second (Verdict.Refused a) w h = let z : _≡_ {A = ℕ} 0 1 = cc in absurd (omega arith)
+else-second (Verdict.Refused a) w h = impossible (cc)
 
 pub first-passes : (v : Verdict) (vs : List Verdict) → firstRefusal (v ∷ vs) ≡ Verdict.Passes → v ≡ Verdict.Passes
 unfolding firstRefusal

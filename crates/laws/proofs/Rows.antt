@@ -12,8 +12,8 @@ use Rattle.rules.specs.declared.Order.{Order}
 use Rattle.rules.specs.Postings.{ranked, compared, same, chain, ascending, present, bucket}
 use Rattle.rules.specs.Checks.{among}
 use Rattle.laws.specs.Words.{rising}
-use Rattle.booleans.proofs.Tests.{and-left, and-right, both, equal-tests}
-use Rattle.laws.proofs.Ranks.{Tri, less, equal, more, tri, ranked-equal, ranked-more, same-equal, same-self}
+use Rattle.booleans.proofs.Tests.{impossible, Tri, less, equal, more, tri, and-left, and-right, both, equal-tests}
+use Rattle.laws.proofs.Ranks.{ranked-equal, ranked-more, same-equal, same-self}
 use Rattle.laws.proofs.Sorted.{chain-before, chain-rest, chain-skip, ascending-rest}
 
 abbrev pub at : ℕ → ℕ → ℕ → Posting
@@ -70,11 +70,9 @@ before-row p q h b k = go (tri (p .row) (q .row))
     go : Tri (p .row) (q .row) → p .row < q .row
     go (less l) = l
     go (equal e) =
-        let z : _≡_ {A = ℕ} 0 1 = cc (ranked-equal (p .row) (q .row) Order.Same e, rows) in
-        absurd (omega arith)
+        impossible (cc (ranked-equal (p .row) (q .row) Order.Same e, rows))
     go (more m) =
-        let z : _≡_ {A = ℕ} 0 1 = cc (ranked-more (p .row) (q .row) Order.Same m, rows) in
-        absurd (omega arith)
+        impossible (cc (ranked-more (p .row) (q .row) Order.Same m, rows))
 
 rising-after :
     (binding key : ℕ) (p : Posting) (ps : List Posting) → binding ≡ p .binding → key ≡ p .key → chain p ps ≡ true →

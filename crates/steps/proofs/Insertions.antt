@@ -16,6 +16,7 @@ use Rattle.rules.specs.Table.{capacity, postings}
 use Rattle.rules.specs.Orders.{Numbered, named, destinationOf, destinationsFrom, noChange}
 use Rattle.rules.specs.Storage.{insertion}
 use Rattle.rules.specs.Publication.{Undone, Stage, undoing, notInserted, byFault, preparing}
+use Rattle.booleans.proofs.Tests.{impossible}
 use Rattle.changes.proofs.Walk.{destinations-left, destinations-none}
 use Rattle.table.specs.Holding.{Ordered}
 use Rattle.table.proofs.Keeping.{carries-postings, carries-ordered}
@@ -61,13 +62,13 @@ prepare-start cs strip used t h =
 -- no fault is blamed on no change, and the blame that there is ends the prepare
 none-blamed : (fault : Fault) (change : ℕ) → blamedOn fault change ≡ Verdict.Passes → fault ≡ Fault.Nothing
 none-blamed Fault.Nothing change e = refl
-none-blamed Fault.Store change e = let z : _≡_ {A = ℕ} 0 1 = cc in absurd (omega arith)
-none-blamed Fault.Full change e = let z : _≡_ {A = ℕ} 0 1 = cc in absurd (omega arith)
+none-blamed Fault.Store change e = impossible (cc)
+none-blamed Fault.Full change e = impossible (cc)
 
 blamed-ends :
     (fault : Fault) (change : ℕ) (why : Answer) → blamedOn fault change ≡ Verdict.Refused why → (back : Undone) (next : Stage) →
     byFault fault change back next ≡ notInserted why change back
-blamed-ends Fault.Nothing change why e back next = let z : _≡_ {A = ℕ} 0 1 = cc in absurd (omega arith)
+blamed-ends Fault.Nothing change why e back next = impossible (cc)
 blamed-ends Fault.Store change why e back next =
     let same : Answer.Store change ≡ why = cc in ap (λ (a : Answer). notInserted a change back) same
 blamed-ends Fault.Full change why e back next =

@@ -13,9 +13,9 @@ use Rattle.rules.specs.declared.Posting.{Posting}
 use Rattle.rules.specs.declared.Order.{Order}
 use Rattle.rules.specs.Postings.{every, ranked, compared, isBefore, chain, ascending, bucket, within}
 use Rattle.rules.specs.Table.{cells, postings}
-use Rattle.booleans.proofs.Tests.{and-left, and-right, both, equal-tests}
+use Rattle.booleans.proofs.Tests.{impossible, Tri, less, equal, more, tri, and-left, and-right, both, equal-tests}
 use Rattle.laws.proofs.Left.{item-left, every-left, every-none}
-use Rattle.laws.proofs.Ranks.{Tri, less, equal, more, tri, ranked-more}
+use Rattle.laws.proofs.Ranks.{ranked-more}
 use Rattle.laws.proofs.Sorted.{chain-before, chain-rest}
 use Rattle.table.specs.Holding.{blank}
 use Rattle.table.proofs.Cells.{length-cells}
@@ -89,13 +89,8 @@ binding-before p q e = go (tri (p .binding) (q .binding))
     go (less h) = omega arith
     go (equal h) = omega arith
     go (more h) =
-        let z : _≡_ {A =
-        ℕ} 0 1 = cc (
-          e,
-          ranked-more (p .binding) (q .binding)
-              (ranked (p .key) (q .key) (ranked (p .row) (q .row) Order.Same)) h,
-        ) in
-        absurd (omega arith)
+        impossible
+        (cc (e, ranked-more (p .binding) (q .binding) (ranked (p .key) (q .key) (ranked (p .row) (q .row) Order.Same)) h))
 
 -- in an ascending list the last posting has the greatest binding, so it alone decides
 pub within-last :
