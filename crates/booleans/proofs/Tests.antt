@@ -62,6 +62,13 @@ or-right false b h = h
 pub neither : (a b : Bool) → a ≡ false → b ≡ false → (a || b) ≡ false
 neither a b p q = rw (p, q)
 
+-- of three tests the first two may change places
+pub or-swap : (a b c : Bool) → (a || (b || c)) ≡ (b || (a || c))
+or-swap true true c = refl
+or-swap true false c = refl
+or-swap false true c = refl
+or-swap false false c = refl
+
 -- a true choice of two tests comes of one of them
 pub or-cases : (a b : Bool) → (a || b) ≡ true → (a ≡ true) ⊎ (b ≡ true)
 or-cases true b h = inl refl

@@ -20,9 +20,9 @@ use Rattle.rules.specs.Table.{postings, wellFormed}
 use Rattle.rules.specs.Orders.{Numbered, named, destinationOf, destinationsFrom, destinations, sources, postingsOf, properLists}
 use Rattle.rules.specs.Checks.{Call, changesOf, must, orElse, firstRefusal, tableCheck, poisonCheck, listCheck, stripCheck, roomCheck, heldKey, guarded, firstFailing, guardCheck, recordable, among, recordFrom, recordCheck, equalTo, twiceFrom, twiceCheck, presentCheck, overlapCheck, prepareChecks, rollbackChecks, removalChecks, publishChecks}
 use Rattle.laws.specs.Words.{isRefusal}
-use Rattle.booleans.proofs.Tests.{impossible, and-left, both, neither}
+use Rattle.booleans.proofs.Tests.{impossible, and-left, both, neither, or-swap}
 use Rattle.laws.proofs.Ranks.{same-turned}
-use Rattle.laws.proofs.Lists.{present-inserted, or-swap}
+use Rattle.laws.proofs.Lists.{present-inserted}
 use Rattle.laws.proofs.Prepare.{Fresh}
 
 -- verdicts

@@ -3,23 +3,13 @@ use Prim.Native.Nat.{suc, _≤_}
 use native.Mathlib.Omega.{arith}
 use mathlib.Core.Path.{_≡_, refl, sym, ap, _∙_}
 use mathlib.Core.List.{List, [], _∷_}
-use mathlib.Core.Bool.{Bool, true, false, cond, not, _&&_, _||_}
+use mathlib.Core.Bool.{Bool, true, false, cond, not, _&&_, _||_, or-self-left}
 use lib.ListN.{length}
 use Rattle.rules.specs.declared.Posting.{Posting}
 use Rattle.rules.specs.declared.Order.{Order}
 use Rattle.rules.specs.Postings.{compared, isSame, same, present, placed, inserted, removed}
-use Rattle.booleans.proofs.Tests.{clash, or-left, or-right, by-cases}
+use Rattle.booleans.proofs.Tests.{by-cases, clash, or-left, or-right, or-swap}
 use Rattle.laws.proofs.Ranks.{compared-same, same-equal, same-self}
-
-or-twice : (a b : Bool) → (a || b) ≡ (a || (a || b))
-or-twice true b = refl
-or-twice false b = refl
-
-pub or-swap : (a b c : Bool) → (a || (b || c)) ≡ (b || (a || c))
-or-swap true true c = refl
-or-swap true false c = refl
-or-swap false true c = refl
-or-swap false false c = refl
 
 apart : (b : Bool) → (b ≡ true → ⊥) → b ≡ false
 apart true f = absurd (f refl)
@@ -37,7 +27,7 @@ present-inserted p q (x ∷ xs) = go (compared q x) refl (present-inserted p q x
     go Order.Before e ih = refl
     go Order.Same e ih =
         let k : same p q ≡ same p x = ap (same p) (compared-same q x e) in
-        rw k (or-twice (same p x) (present p xs))
+        rw k (sym (or-self-left (same p x) (present p xs)))
     go Order.After e ih = rw ih (or-swap (same p x) (same p q) (present p xs))
 
 not-twice : (a b : Bool) → (b && not a) ≡ ((a || b) && not a)

@@ -21,8 +21,7 @@ use Rattle.rules.specs.Orders.{Numbered, guards, held, destinations, sources, p
 use Rattle.rules.specs.Checks.{Call, changesOf, must, orElse, firstRefusal, firstFailing, guarded, guardCheck, recordable, among, recordFrom, recordCheck, equalTo, twiceFrom, twiceCheck, presentCheck, overlapCheck}
 use Rattle.laws.specs.Words.{nowhere, numberAt}
 use Rattle.laws.specs.Names.{noGuard, FirstAt, NamesFirst, Apart, twins, FirstPair, NamesPair, Repeated, FirstBad, NamesBad, Holder, RefusedAt}
-use Rattle.booleans.proofs.Tests.{impossible, clash, and-left, and-right, or-left, or-right}
-use Rattle.laws.proofs.Lists.{or-swap}
+use Rattle.booleans.proofs.Tests.{impossible, clash, and-left, and-right, or-left, or-right, or-swap}
 use Rattle.laws.proofs.Checks.{failing-first, failing-rest}
 
 -- where none fails

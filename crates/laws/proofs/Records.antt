@@ -16,8 +16,7 @@ use Rattle.rules.specs.Postings.{same, present, inserted}
 use Rattle.rules.specs.Orders.{Numbered, named, destinationOf, destinationsFrom, destinations, numbersOf, postingsOf, noChange, recorded}
 use Rattle.rules.specs.Checks.{isNamed, recordable, among, recordFrom}
 use Rattle.laws.specs.Words.{added, takenAway, rising}
-use Rattle.booleans.proofs.Tests.{and-left, and-right, both, neither}
-use Rattle.laws.proofs.Lists.{or-swap}
+use Rattle.booleans.proofs.Tests.{and-left, and-right, both, neither, or-swap}
 use Rattle.laws.proofs.Undo.{Put, put-back}
 use Rattle.laws.proofs.Prepare.{Fresh}
 
