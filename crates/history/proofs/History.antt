@@ -369,8 +369,7 @@ module _ (x : Index) (start : List Posting) (e : Holds x start) where
   pub right-or-withheld : (cs : List Call) → RightOrWithheld x start cs
   right-or-withheld cs = record { right = right-until cs; withheld = withheld-after cs }
 
--- and from an empty index: well formed, unpoisoned, used 0
-pub right-or-withheld-from-empty :
-    (x : Index) → wellFormed (x .head) (x .table) ≡ true → x .head .poisoned ≡ 0 → x .head .used ≡ 0 → (cs : List Call) →
-    RightOrWithheld x [] cs
-right-or-withheld-from-empty x f p u = right-or-withheld x [] (record { formed = f; healthy = p; just = rw u })
+-- an empty index, that is well formed, unpoisoned, used 0, holds no posting
+pub empty-holds :
+    (x : Index) → wellFormed (x .head) (x .table) ≡ true → x .head .poisoned ≡ 0 → x .head .used ≡ 0 → Holds x []
+empty-holds x f p u = record { formed = f; healthy = p; just = rw u }
