@@ -18,14 +18,14 @@ use Rattle.rules.specs.Orders.{Numbered}
 use Rattle.rules.specs.Answers.{settled, isAccepted}
 use Rattle.rules.specs.Checks.{countChecks, Call, prepareChecks, rollbackChecks, removalChecks, publishChecks}
 use Rattle.rules.specs.Calls.{countOf, Outcome, prepared, prepareOf, rollbackOf, removalOf, publishOf}
-use Rattle.laws.specs.Words.{added, takenAway, numberAt, Quiet, Noisy}
+use Rattle.laws.specs.Words.{postingsBefore, added, takenAway, numberAt, Quiet, Noisy}
 use Rattle.booleans.proofs.Tests.{impossible, clash}
 use Rattle.laws.proofs.Flat.{well-formed-parts, used-postings, postings-laid-out}
 use Rattle.laws.proofs.Answers.{refusal-unchanged, unchanged-accepts-not}
 use Rattle.laws.proofs.Checks.{isProper, publish-proper, refuses, Clear, prepare-clear, publish-clear}
 use Rattle.laws.proofs.Undo.{quiet-join, not-quiet}
 use Rattle.laws.proofs.Prepare.{Cause, TakenBack, LeftBehind}
-use Rattle.laws.proofs.Outcomes.{IsReady, IsStopped, start, going, leaving, recordedBack, stop-not-accepted, Published, published, Prepares, prepares, RollsBack, rolls-back, Removes, removes}
+use Rattle.laws.proofs.Outcomes.{IsReady, IsStopped, going, leaving, recordedBack, stop-not-accepted, Published, published, Prepares, prepares, RollsBack, rolls-back, Removes, removes}
 use Rattle.laws.proofs.Outcomes as outcome
 use Rattle.laws.proofs.Sets.{present-said, said-list}
 use Rattle.history.specs.Acceptance.{Acceptable, Fails, Ends, RollbackEnds, RemovalEnds, Answered, PublishAnswers, PrepareAnswers, RollbackAnswers, RemovalAnswers, CountAnswers, Leaves}
@@ -148,7 +148,7 @@ accepted-passes v E p a h (Answered.refused e) =
 accepted-passes v E p a h (Answered.ended e k) = (e, k)
 
 module _ (head : Head) (table : List ℕ) (c : Call) where
-  used-start : Clear head table c → length (start head table) ≡ head .used
+  used-start : Clear head table c → length (postingsBefore head table) ≡ head .used
   used-start k = used-postings head table (well-formed-parts head table (k .formed))
 
   ready-room : Clear head table c → IsReady head table c → head .used + length (going c) ≤ capacity table
@@ -177,8 +177,8 @@ module _ (head : Head) (table : List ℕ) (c : Call) where
 
       go :
           (why : Answer) →
-          Cause (byteAt (c .strip) (0 + s .at)) (length (start head table) + s .at) (capacity table) (numberAt (going c) (s .at)) why →
-          TakenBack (c .strip) (0 + s .at + 1) (0 + s .at + 1 + (0 + s .at)) (start head table) why (prepared head table c) ⊎ LeftBehind (c .strip) (0 + s .at + 1) (0 + s .at + 1 + (0 + s .at)) (numberAt (going c) (s .at)) (start head table) (prepared head table c) →
+          Cause (byteAt (c .strip) (0 + s .at)) (length (postingsBefore head table) + s .at) (capacity table) (numberAt (going c) (s .at)) why →
+          TakenBack (c .strip) (0 + s .at + 1) (0 + s .at + 1 + (0 + s .at)) (postingsBefore head table) why (prepared head table c) ⊎ LeftBehind (c .strip) (0 + s .at + 1) (0 + s .at + 1 + (0 + s .at)) (numberAt (going c) (s .at)) (postingsBefore head table) (prepared head table c) →
           Ends (capacity table) (head .used) (c .strip) (going c) ss (prepared head table c .answer)
       go why (Cause.store b) u =
           let b′ : byteAt (c .strip) (s .at) ≡ 0 → ⊥ = rw z at b in
@@ -302,11 +302,11 @@ module _ (head : Head) (table : List ℕ) (c : Call) where
         bindings = refl;
         poisoned = refl;
         recordList = refl;
-        set = λ p. rw (postings-laid-out (length table) (takenAway (leaving c) (added (going c) (start head table)))) (present-said p (going c) (leaving c) (start head table));
-        list = λ l h f. let e = said-list (going c) (leaving c) (start head table) l sorted h f in (ap length e, ap (laidOut (length table)) e);
+        set = λ p. rw (postings-laid-out (length table) (takenAway (leaving c) (added (going c) (postingsBefore head table)))) (present-said p (going c) (leaving c) (postingsBefore head table));
+        list = λ l h f. let e = said-list (going c) (leaving c) (postingsBefore head table) l sorted h f in (ap length e, ap (laidOut (length table)) e);
       })
     where
-      sorted : ascending (start head table) ≡ true
+      sorted : ascending (postingsBefore head table) ≡ true
       sorted = well-formed-parts head table (publish-clear head table c (k .passes) .formed) .sorted
 
 -- the answers of a count
