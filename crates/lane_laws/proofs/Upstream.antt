@@ -4,9 +4,10 @@ use native.Mathlib.Omega.{arith}
 use mathlib.Core.Path.{_≡_, refl, sym, ap, _∙_}
 use mathlib.Core.List.{List}
 use mathlib.Core.Bool.{true, false}
+use mathlib.Mathlib.Data.Bool.Basic.{and-elim-left}
 use lib.Dec.{leb}
 use borrow.Author.Tests.{ne-eqb, leb-true}
-use Rattle.booleans.proofs.Tests.{clash, and-left}
+use Rattle.booleans.proofs.Tests.{clash}
 use Rattle.masks.specs.Masks.{Inside}
 use Rattle.masks.proofs.Lanes.{no-lane, inside-same}
 use Rattle.lane_rules.specs.declared.View.{View}
@@ -99,7 +100,7 @@ told-unrefused Said.Error = refl
 refusal-not-accepted : (a : Answer) → isRefusal a ≡ true → isAccepted a ≡ false
 refusal-not-accepted a h =
     let number = toldOf a .answer in
-    let low = leb-true 20 number (and-left (leb 20 number) (leb number 23) h) in
+    let low = leb-true 20 number (and-elim-left (leb 20 number) (leb number 23) h) in
     ne-eqb number 0 (λ e. omega arith)
 
 module _ (v : View) where

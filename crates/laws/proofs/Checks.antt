@@ -4,6 +4,7 @@ use native.Mathlib.Omega.{arith}
 use mathlib.Core.Path.{_≡_, refl, sym, _∙_}
 use mathlib.Core.List.{List, [], _∷_, _++_}
 use mathlib.Core.Bool.{Bool, true, false, not, _&&_, _||_, or-assoc}
+use mathlib.Mathlib.Data.Bool.Basic.{and-elim-left, and-intro}
 use lib.ListN.{length}
 use lib.Dec.{eqb, ltb, leb}
 use borrow.Author.Tests.{ne-eqb, eqb-true, leb-true, not-true}
@@ -20,7 +21,7 @@ use Rattle.rules.specs.Table.{postings, wellFormed}
 use Rattle.rules.specs.Orders.{Numbered, named, destinationOf, destinationsFrom, destinations, sources, postingsOf, properLists}
 use Rattle.rules.specs.Checks.{Call, changesOf, must, orElse, firstRefusal, tableCheck, poisonCheck, listCheck, stripCheck, roomCheck, heldKey, guarded, firstFailing, guardCheck, recordable, among, recordFrom, recordCheck, equalTo, twiceFrom, twiceCheck, presentCheck, overlapCheck, prepareChecks, rollbackChecks, removalChecks, publishChecks}
 use Rattle.laws.specs.Words.{isRefusal}
-use Rattle.booleans.proofs.Tests.{impossible, and-left, both, neither, or-swap}
+use Rattle.booleans.proofs.Tests.{impossible, neither, or-swap}
 use Rattle.laws.proofs.Ranks.{same-turned}
 use Rattle.laws.proofs.Lists.{present-inserted}
 use Rattle.laws.proofs.Prepare.{Fresh}
@@ -204,12 +205,12 @@ guarded-within n gs i c ds h k = go (destinationOf c)
   where
     below : ltb (c .binding) n ≡ true
     below =
-        and-left (ltb (c .binding) n) (heldKey (c .binding) (c .before) gs)
-        (and-left (ltb (c .binding) n && heldKey (c .binding) (c .before) gs) (heldKey (c .binding) (c .after) gs) h)
+        and-elim-left (ltb (c .binding) n) (heldKey (c .binding) (c .before) gs)
+        (and-elim-left (ltb (c .binding) n && heldKey (c .binding) (c .before) gs) (heldKey (c .binding) (c .after) gs) h)
 
     go : (key : Key) → every (within n) (postingsOf (named i c key ds)) ≡ true
     go Key.Missing = k
-    go (Key.Named key) = both (ltb (c .binding) n) (every (within n) (postingsOf ds)) below k
+    go (Key.Named key) = and-intro below k
 
 destinations-within :
     (n : ℕ) (gs : List Guard) (answer : ℕ → Change → Answer) (i j : ℕ) (cs : List Change) →

@@ -6,6 +6,7 @@ use mathlib.Core.Path.{_≡_, refl, sym, ap, _∙_}
 use mathlib.Core.List.{List, [], _∷_, _++_}
 use mathlib.Core.Bool.{Bool, true, false, not, _&&_, _||_, or-true}
 use mathlib.Core.Logic.{_⊎_, inl, inr}
+use mathlib.Mathlib.Data.Bool.Basic.{and-elim-left, and-elim-right}
 use lib.ListN.{length, getD, length-append, List·getD-append}
 use lib.Seq.{getD-append-seam, append-snoc}
 use lib.Dec.{eqb}
@@ -21,7 +22,7 @@ use Rattle.rules.specs.Orders.{Numbered, guards, held, destinations, sources, p
 use Rattle.rules.specs.Checks.{Call, changesOf, must, orElse, firstRefusal, firstFailing, guarded, guardCheck, recordable, among, recordFrom, recordCheck, equalTo, twiceFrom, twiceCheck, presentCheck, overlapCheck}
 use Rattle.laws.specs.Words.{nowhere, numberAt}
 use Rattle.laws.specs.Names.{noGuard, FirstAt, NamesFirst, Apart, twins, FirstPair, NamesPair, Repeated, FirstBad, NamesBad, Holder, RefusedAt}
-use Rattle.booleans.proofs.Tests.{impossible, clash, and-left, and-right, or-left, or-right, or-swap}
+use Rattle.booleans.proofs.Tests.{impossible, clash, or-left, or-right, or-swap}
 use Rattle.laws.proofs.Checks.{failing-first, failing-rest}
 
 -- where none fails
@@ -299,7 +300,7 @@ record-from cs all pre (n ∷ ns) earlier e f g =
     (λ h.
     rw (length-append pre (n ∷ [])) at
     (record-from cs all (pre ++ n ∷ []) ns (n ∷ earlier) (numbers-further cs all pre n ns earlier e f) (tally cs all pre n ns earlier e f)
-    (fine-more cs all pre n ns earlier e f g (and-left (recordable cs n) (not (among n earlier)) h) (not-true (among n earlier) (and-right (recordable cs n) (not (among n earlier)) h)))))
+    (fine-more cs all pre n ns earlier e f g (and-elim-left (recordable cs n) (not (among n earlier)) h) (not-true (among n earlier) (and-elim-right (recordable cs n) (not (among n earlier)) h)))))
   where
     Both : Verdict → Type 0
     Both v = (v ≡ Verdict.Passes → AllFine cs all (length all)) × ((a : Answer) → v ≡ Verdict.Refused a → NamesBad cs all a)
@@ -347,8 +348,8 @@ held-at binding key (g ∷ gs) h = go (eqb binding (g .binding) && eqb key (g .k
         record {
           at = 0;
           there = omega arith;
-          bindings = sym (eqb-true binding (g .binding) (and-left (eqb binding (g .binding)) (eqb key (g .key)) e));
-          keys = sym (eqb-true key (g .key) (and-right (eqb binding (g .binding)) (eqb key (g .key)) e));
+          bindings = sym (eqb-true binding (g .binding) (and-elim-left (eqb binding (g .binding)) (eqb key (g .key)) e));
+          keys = sym (eqb-true key (g .key) (and-elim-right (eqb binding (g .binding)) (eqb key (g .key)) e));
         }
     go false e ih k =
         let r = ih k in

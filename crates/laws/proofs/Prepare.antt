@@ -6,6 +6,7 @@ use mathlib.Core.Path.{_≡_, refl, sym, ap, _∙_}
 use mathlib.Core.List.{List, [], _∷_}
 use mathlib.Core.Bool.{true, false, _||_, or-assoc}
 use mathlib.Core.Logic.{_⊎_, inl, inr, ⊎-elim}
+use mathlib.Mathlib.Data.Bool.Basic.{and-elim-left, and-elim-right}
 use lib.ListN.{length}
 use lib.Dec.{ltb}
 use borrow.Author.Tests.{ltb-true, ltb-false}
@@ -17,7 +18,7 @@ use Rattle.rules.specs.Postings.{every, within, same, present, inserted}
 use Rattle.rules.specs.Orders.{Numbered, postingsOf}
 use Rattle.rules.specs.Publication.{undoing, Stage, whyNot, notInserted, preparing}
 use Rattle.laws.specs.Words.{added, numberAt, Quiet, Noisy}
-use Rattle.booleans.proofs.Tests.{either, and-left, and-right, or-swap}
+use Rattle.booleans.proofs.Tests.{either, or-swap}
 use Rattle.laws.proofs.Lists.{present-inserted, length-inserted}
 use Rattle.laws.proofs.Flat.{Sound}
 use Rattle.laws.proofs.Steps.{preparing-clear, preparing-full, preparing-store, sound-inserted}
@@ -226,6 +227,6 @@ prepare-sound n capacity strip (d ∷ ds) done read ps h s =
     prepare-step (λ (t : Stage). Sound n capacity (t .postings)) capacity strip d ds done read ps
     (λ l.
     prepare-sound n capacity strip ds (d ∷ done) (read + 1) (inserted (d .posting) ps)
-    (and-right (within n (d .posting)) (every (within n) (postingsOf ds)) h)
-    (sound-inserted n capacity (d .posting) ps (and-left (within n (d .posting)) (every (within n) (postingsOf ds)) h) l s))
+    (and-elim-right (within n (d .posting)) (every (within n) (postingsOf ds)) h)
+    (sound-inserted n capacity (d .posting) ps (and-elim-left (within n (d .posting)) (every (within n) (postingsOf ds)) h) l s))
     (λ why. undo-sound n capacity strip done Verdict.Passes (read + 1) ps s)

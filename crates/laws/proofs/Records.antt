@@ -5,6 +5,7 @@ use native.Mathlib.Omega.{arith}
 use mathlib.Core.Path.{_≡_, refl, sym, ap, _∙_}
 use mathlib.Core.List.{List, [], _∷_, reverseAux, reverse}
 use mathlib.Core.Bool.{true, false, _||_, or-true, or-false, or-assoc}
+use mathlib.Mathlib.Data.Bool.Basic.{and-elim-left, and-elim-right, and-intro}
 use lib.ListN.{length, getD}
 use lib.Dec.{eqb, leb, leb·suc-suc}
 use borrow.Author.Tests.{leb-true, eq-eqb, ne-eqb, lt-ltb, le-leb, le-ltb}
@@ -16,7 +17,7 @@ use Rattle.rules.specs.Postings.{same, present, inserted}
 use Rattle.rules.specs.Orders.{Numbered, named, destinationOf, destinationsFrom, destinations, numbersOf, postingsOf, noChange, recorded}
 use Rattle.rules.specs.Checks.{isNamed, recordable, among, recordFrom}
 use Rattle.laws.specs.Words.{added, takenAway, rising}
-use Rattle.booleans.proofs.Tests.{and-left, and-right, both, neither, or-swap}
+use Rattle.booleans.proofs.Tests.{neither, or-swap}
 use Rattle.laws.proofs.Undo.{Put, put-back}
 use Rattle.laws.proofs.Prepare.{Fresh}
 
@@ -63,8 +64,8 @@ rising-later : (low high : ℕ) (ns : List ℕ) → low ≤ high → rising high
 unfolding rising
 rising-later low high [] h r = refl
 rising-later low high (n ∷ ns) h r =
-    let k = leb-true high n (and-left (leb high n) (rising (n + 1) ns) r) in
-    both (leb low n) (rising (n + 1) ns) (le-leb low n (omega arith)) (and-right (leb high n) (rising (n + 1) ns) r)
+    let k = leb-true high n (and-elim-left (leb high n) (rising (n + 1) ns) r) in
+    and-intro (le-leb low n (omega arith)) (and-elim-right (leb high n) (rising (n + 1) ns) r)
 
 rising-from : (i : ℕ) (cs : List Change) → rising i (numbersOf (destinationsFrom i cs)) ≡ true
 unfolding destinationsFrom rising
@@ -76,7 +77,7 @@ rising-from i (c ∷ cs) = go (destinationOf c) (rising-from (i + 1) cs)
         rising i (numbersOf (named i c k (destinationsFrom (i + 1) cs))) ≡ true
     go Key.Missing ih = rising-later i (i + 1) (numbersOf (destinationsFrom (i + 1) cs)) (omega arith) ih
     go (Key.Named key) ih =
-        both (leb i i) (rising (i + 1) (numbersOf (destinationsFrom (i + 1) cs))) (le-leb i i (omega arith)) ih
+        and-intro (le-leb i i (omega arith)) ih
 
 pub rising-numbers : (cs : List Change) → rising 0 (numbersOf (destinations cs)) ≡ true
 rising-numbers cs = rising-from 0 cs
@@ -86,9 +87,9 @@ among-below : (j low : ℕ) (ns : List ℕ) → j < low → rising low ns ≡ tr
 unfolding among rising
 among-below j low [] h r = refl
 among-below j low (n ∷ ns) h r =
-    let k = leb-true low n (and-left (leb low n) (rising (n + 1) ns) r) in
+    let k = leb-true low n (and-elim-left (leb low n) (rising (n + 1) ns) r) in
     neither (eqb j n) (among j ns) (ne-eqb j n (λ e. omega arith))
-    (among-below j (n + 1) ns (omega arith) (and-right (leb low n) (rising (n + 1) ns) r))
+    (among-below j (n + 1) ns (omega arith) (and-elim-right (leb low n) (rising (n + 1) ns) r))
 
 recordable-next : (c : Change) (cs : List Change) (j : ℕ) → recordable (c ∷ cs) (suc j) ≡ recordable cs j
 unfolding recordable
@@ -132,11 +133,11 @@ pub recordable-numbers :
 unfolding recordFrom among rising
 recordable-numbers cs [] f place low earlier g r = refl
 recordable-numbers cs (n ∷ ns) f place low earlier g r =
-    let k = leb-true low n (and-left (leb low n) (rising (n + 1) ns) r) in
+    let k = leb-true low n (and-elim-left (leb low n) (rising (n + 1) ns) r) in
     rw (f n (rw (eq-eqb n n refl)), g n k)
     (recordable-numbers cs ns (λ m h. f m (rw h (or-true (eqb m n)))) (place + 1) (n + 1) (n ∷ earlier)
     (λ m h. neither (eqb m n) (among m earlier) (ne-eqb m n (λ e. omega arith)) (g m (omega arith)))
-    (and-right (leb low n) (rising (n + 1) ns) r))
+    (and-elim-right (leb low n) (rising (n + 1) ns) r))
 
 pub record-taken : (cs : List Change) → recordFrom 0 cs [] (numbersOf (destinations cs)) ≡ Verdict.Passes
 unfolding among

@@ -4,6 +4,7 @@ use native.Mathlib.Omega.{arith}
 use mathlib.Core.Path.{_≡_, refl, sym, ap, _∙_}
 use mathlib.Core.List.{List, [], _∷_, _++_, reverse, reverseAux-eq, append-nil}
 use mathlib.Core.Bool.{Bool, true, cond}
+use mathlib.Mathlib.Data.Bool.Basic.{and-elim-left, and-elim-right}
 use lib.ListN.{length, getD}
 use lib.Dec.{ltb}
 use borrow.Author.Tests.{ltb-true}
@@ -18,7 +19,6 @@ use Rattle.rules.specs.Orders.{Numbered, named, destinationOf, noChange, record
 use Rattle.rules.specs.Storage.{removal}
 use Rattle.rules.specs.Postings.{every}
 use Rattle.rules.specs.Publication.{Undone, undoing, whyNot, notInserted}
-use Rattle.booleans.proofs.Tests.{and-left, and-right}
 use Rattle.changes.proofs.Walk.{named-append}
 use Rattle.table.specs.Holding.{Ordered}
 use Rattle.table.proofs.Keeping.{carries-postings, carries-ordered}
@@ -163,9 +163,9 @@ pub number-below :
     (count : ℕ) (ns : List ℕ) (i : ℕ) → every (λ n. ltb n count) ns ≡ true → i < length ns → getD ns i 0 < count
 unfolding every
 number-below count [] i e h = absurd (omega arith)
-number-below count (n ∷ ns) zero e h = ltb-true n count (and-left (ltb n count) (every (λ n. ltb n count) ns) e)
+number-below count (n ∷ ns) zero e h = ltb-true n count (and-elim-left (ltb n count) (every (λ n. ltb n count) ns) e)
 number-below count (n ∷ ns) (suc i) e h =
-    number-below count ns i (and-right (ltb n count) (every (λ n. ltb n count) ns) e) (omega arith)
+    number-below count ns i (and-elim-right (ltb n count) (every (λ n. ltb n count) ns) e) (omega arith)
 
 -- a change could not be inserted: the answer that says why where the undo was clean, else 12 with that change
 module _ (why : Answer) (change : ℕ) {u : Undone} {b : Back} {t : List ℕ} {most : ℕ} (o : UndoneIn u b t most) where
