@@ -110,7 +110,10 @@ asdrifen_told asdrifen_publish(asdrifen_head *head, uint32_t *table, size_t tabl
     const uint32_t *changes, size_t changes_len, const asdrifen_guard *guards, size_t guards_len,
     const uint8_t *strip, size_t strip_len, uint32_t *record, size_t record_len);
 
-/* Sets the poison flag of a head in place, and nothing else. Every later publish and count with this head is answered 2. */
+/*
+ * Sets the poison flag of a head in place, and nothing else. Every later publish and count with this head is refused: with 2, or with
+ * 1 where head or table is not well formed.
+ */
 void asdrifen_poison_indexes(asdrifen_head *head);
 
 /* 1 where the key of this binding is among the guards, else 0. */

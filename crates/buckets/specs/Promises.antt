@@ -25,11 +25,11 @@ seen o = record { told = toldOf (o .answer); output = o .output; scratch = o .sc
 
 -- the promises: at entry the input, the bucket count and what is lent for writing; on return the answer, and what was lent
 abbrev pub SortPromise : List ℕ → ℕ → List ℕ → Answer → List ℕ → Type 0
-SortPromise input count output a output′ = seen (outcomeOf a output′ []) ≡ seen (sortOf input count output)
+SortPromise input count output a outputLeft = seen (outcomeOf a outputLeft []) ≡ seen (sortOf input count output)
 
 abbrev pub BitmapPromise : List ℕ → ℕ → List ℕ → List ℕ → Answer → List ℕ → List ℕ → Type 0
-BitmapPromise input count output scratch a output′ scratch′ =
-    seen (outcomeOf a output′ scratch′) ≡ seen (bitmapOf input count output scratch)
+BitmapPromise input count output scratch a outputLeft scratchLeft =
+    seen (outcomeOf a outputLeft scratchLeft) ≡ seen (bitmapOf input count output scratch)
 
 -- the stamp test
 abbrev pub PrecedesPromise : ℕ → ℕ → Bool → Type 0

@@ -6,7 +6,7 @@ mod lists;
 use case_text::reading;
 use case_text::writing;
 use lists::Name;
-use publish::Done;
+use rules::Done;
 use rules::Head;
 
 // The posting calls.

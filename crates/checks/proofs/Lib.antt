@@ -4,5 +4,4 @@ pub mod Shape
 pub mod Failing
 pub mod Few
 pub mod Numbers
-pub mod Pairs
 pub mod Guarding

@@ -15,7 +15,7 @@ use Rattle.rules.specs.Calls.{Outcome, headWith, publishOf}
 use Rattle.laws.specs.Words.{Stable}
 use Rattle.laws.proofs.Answers.{told-injective}
 use Rattle.laws.proofs.Calls.{publish-stable}
-use Rattle.refusals.specs.Lending.{lending}
+use Rattle.rules.specs.Orders.{lending}
 use Rattle.publish.specs.Promises.{Seen, seen, seenOf, GuardedPromise}
 use Rattle.publish.proofs.Outcomes.{guarded-publishes}
 use Rattle.entry.specs.Asking.{flat, unheldPlace}

@@ -9,20 +9,19 @@ use rules::Answer;
 use rules::Guard;
 use rules::Head;
 ghost use mathlib.Core.Path.{_≡_};
-ghost use Rattle.rules.specs.Orders.{held};
 ghost use Rattle.entry.specs.Asking.{wantedHeld, unheldPlace};
-ghost use Rattle.entry.specs.Promises.{poisonedHead, EntryPromise};
+ghost use Rattle.entry.specs.Promises.{PoisonPromise, HeldPromise, EntryPromise};
 
 // Sets the poison flag in place: counts of these indexes are withheld from now on.
 pub fn poison_indexes(head: &mut Head)
-    ensures { λ _. ⌜ now (head .exit) ≡ poisonedHead (now (head .entry)) ⌝ }
+    ensures { λ _. ⌜ PoisonPromise (now (head .entry)) (now (head .exit)) ⌝ }
 {
     head.poisoned = 1;
 }
 
 // The pair (binding, key) is among the guards.
 pub fn held(guards: &[Guard], binding: u32, key: u32) -> bool
-    ensures { λ r. ⌜ r ≡ held binding key (now (guards .entry)) ⌝ }
+    ensures { λ r. ⌜ HeldPromise (now (guards .entry)) binding key r ⌝ }
 {
     let mut i = 0;
     while i < guards.len() {

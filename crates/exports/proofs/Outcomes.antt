@@ -1,12 +1,12 @@
 -- One outcome for each exported call: any two results that its promise allows are equal, with every number of the lists lent for
--- writing.
+-- writing. That of poison_indexes is the entry's own: poison-one-outcome.
 use Prim.Native.Nat.{ℕ}
 use mathlib.Core.Path.{_≡_, sym, ap, _∙_}
 use mathlib.Core.List.{List, []}
 use Rattle.rules.specs.declared.Guard.{Guard}
 use Rattle.rules.specs.declared.Head.{Head}
 use Rattle.rules.specs.declared.Told.{Told}
-use Rattle.rules.specs.Checks.{Call}
+use Rattle.rules.specs.Orders.{Call}
 use Rattle.publish.specs.Promises as posting
 use Rattle.publish.proofs.Outcomes.{OneOutcome}
 use Rattle.lane_rules.specs.declared.View.{View}

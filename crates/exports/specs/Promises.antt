@@ -8,10 +8,8 @@ use Rattle.rules.specs.declared.Guard.{Guard}
 use Rattle.rules.specs.declared.Head.{Head}
 use Rattle.rules.specs.declared.Told.{Told}
 use Rattle.rules.specs.Answers.{toldOf}
-use Rattle.rules.specs.Orders.{held}
-use Rattle.rules.specs.Checks.{Call}
+use Rattle.rules.specs.Orders.{held, Call, lending}
 use Rattle.rules.specs.Calls.{prepareOf, rollbackOf, removalOf, publishOf, countOf}
-use Rattle.refusals.specs.Lending.{lending}
 use Rattle.publish.specs.Promises as posting
 use Rattle.entry.specs.Asking.{flat}
 use Rattle.lane_rules.specs.declared.View.{View}
@@ -29,21 +27,21 @@ abbrev pub postingSeen : Done → List ℕ → List ℕ → posting.Seen
 postingSeen r table list = record { told = r .told; head = r .head; table = table; recordList = list }
 
 abbrev pub PreparePromise : Head → List ℕ → Call → Done → List ℕ → List ℕ → Type 0
-PreparePromise head table c r table′ list′ = postingSeen r table′ list′ ≡ posting.seenOf (prepareOf head table c)
+PreparePromise head table c r tableLeft listLeft = postingSeen r tableLeft listLeft ≡ posting.seenOf (prepareOf head table c)
 
 abbrev pub RollbackPromise : Head → List ℕ → Call → Done → List ℕ → List ℕ → Type 0
-RollbackPromise head table c r table′ list′ = postingSeen r table′ list′ ≡ posting.seenOf (rollbackOf head table c)
+RollbackPromise head table c r tableLeft listLeft = postingSeen r tableLeft listLeft ≡ posting.seenOf (rollbackOf head table c)
 
 abbrev pub RemovalPromise : Head → List ℕ → Call → Done → List ℕ → List ℕ → Type 0
-RemovalPromise head table c r table′ list′ = postingSeen r table′ list′ ≡ posting.seenOf (removalOf head table c)
+RemovalPromise head table c r tableLeft listLeft = postingSeen r tableLeft listLeft ≡ posting.seenOf (removalOf head table c)
 
 abbrev pub PublishPromise : Head → List ℕ → Call → Done → List ℕ → List ℕ → Type 0
-PublishPromise head table c r table′ list′ = postingSeen r table′ list′ ≡ posting.seenOf (publishOf head table c)
+PublishPromise head table c r tableLeft listLeft = postingSeen r tableLeft listLeft ≡ posting.seenOf (publishOf head table c)
 
 -- with the head set in place, and the guards' flat numbers
 abbrev pub LentPublishPromise : Head → List ℕ → List ℕ → List Guard → List ℕ → List ℕ → Told → Head → List ℕ → List ℕ → Type 0
-LentPublishPromise head table changes guards strip list r head′ table′ list′ =
-    PublishPromise head table (lending changes (flat guards) strip list) (record { head = head′; told = r }) table′ list′
+LentPublishPromise head table changes guards strip list r headLeft tableLeft listLeft =
+    PublishPromise head table (lending changes (flat guards) strip list) (record { head = headLeft; told = r }) tableLeft listLeft
 
 abbrev pub HeldPromise : List Guard → ℕ → ℕ → ℕ → Type 0
 HeldPromise guards binding key r = r ≡ cond (held binding key guards) 1 0
@@ -82,11 +80,11 @@ abbrev pub withOther : bucket.Seen → BucketSeen
 withOther s = bucketSeen (threeNumbers (s .told)) (s .output) (s .scratch)
 
 abbrev pub SortPromise : List ℕ → ℕ → List ℕ → Told → List ℕ → Type 0
-SortPromise input count output r output′ = bucketSeen r output′ [] ≡ withOther (bucket.seen (sortOf input count output))
+SortPromise input count output r outputLeft = bucketSeen r outputLeft [] ≡ withOther (bucket.seen (sortOf input count output))
 
 abbrev pub BitmapPromise : List ℕ → ℕ → List ℕ → List ℕ → Told → List ℕ → List ℕ → Type 0
-BitmapPromise input count output scratch r output′ scratch′ =
-    bucketSeen r output′ scratch′ ≡ withOther (bucket.seen (bitmapOf input count output scratch))
+BitmapPromise input count output scratch r outputLeft scratchLeft =
+    bucketSeen r outputLeft scratchLeft ≡ withOther (bucket.seen (bitmapOf input count output scratch))
 
 -- 1 for yes, 0 for no
 abbrev pub PrecedesPromise : ℕ → ℕ → ℕ → Type 0

@@ -9,8 +9,8 @@ ghost use mathlib.Core.Path.{_≡_};
 ghost use mathlib.Core.List.{[]};
 ghost use mathlib.Core.Bool.{cond};
 ghost use Rattle.rules.specs.Answers.{toldOf};
-ghost use Rattle.refusals.specs.Lending.{lending};
-ghost use Rattle.entry.specs.Promises.{poisonedHead};
+ghost use Rattle.rules.specs.Orders.{lending};
+ghost use Rattle.entry.specs.Promises.{PoisonPromise};
 ghost use Rattle.lanes.specs.Promises.{seen};
 ghost use Rattle.bucket_rules.specs.Answers as bucketAnswers;
 ghost use Rattle.exports.specs.Promises.{laneSeen, threeNumbers, PreparePromise, RollbackPromise, RemovalPromise, PublishPromise, LentPublishPromise, HeldPromise, CountPromise, CachedPromise, RefreshedPromise, DetachPromise, SortPromise, BitmapPromise, PrecedesPromise};
@@ -31,7 +31,7 @@ pub struct Detached {
 }
 
 // The numbers of a posting call's result.
-fn posting_numbers(result: publish::Done) -> Done
+fn posting_numbers(result: rules::Done) -> Done
     ensures { λ r. ⌜ r ≡ record { head = result .head; told = toldOf (result .answer) } ⌝ }
 {
     let head = result.head;
@@ -94,7 +94,7 @@ pub extern "C" fn asdrifen_publish(
 // Sets the poison flag in place.
 #[no_mangle]
 pub extern "C" fn asdrifen_poison_indexes(head: &mut Head)
-    ensures { λ _. ⌜ now (head .exit) ≡ poisonedHead (now (head .entry)) ⌝ }
+    ensures { λ _. ⌜ PoisonPromise (now (head .entry)) (now (head .exit)) ⌝ }
 {
     entry::poison_indexes(head);
 }

@@ -7,13 +7,13 @@ use mathlib.Core.Logic.{_↔_}
 use Rattle.rules.specs.declared.Answer.{Answer}
 use Rattle.rules.specs.declared.Head.{Head}
 use Rattle.rules.specs.Answers.{isAccepted}
-use Rattle.rules.specs.Checks.{Call}
-use Rattle.rules.specs.Calls.{Outcome, prepareOf, rollbackOf, removalOf, publishOf, countOf}
+use Rattle.rules.specs.Orders.{Call}
+use Rattle.rules.specs.declared.Done.{Done}
+use Rattle.rules.specs.Calls.{Outcome, prepareOf, rollbackOf, removalOf, publishOf, countOf, outcomeOf}
 use Rattle.laws.proofs.Answers.{told-injective}
 use Rattle.history.specs.Acceptance.{Acceptable, PublishAnswers, PrepareAnswers, RollbackAnswers, RemovalAnswers, CountAnswers, Leaves}
 use Rattle.history.proofs.Acceptance as law
-use Rattle.publish.specs.declared.Done.{Done}
-use Rattle.publish.specs.Promises.{seen, seenOf, outcomeOf, PreparePromise, RollbackPromise, RemovalPromise, PublishPromise, CountPromise}
+use Rattle.publish.specs.Promises.{seen, seenOf, PreparePromise, RollbackPromise, RemovalPromise, PublishPromise, CountPromise}
 use Rattle.publish.proofs.Outcomes.{seen-outcome}
 
 -- a result has the answer of the outcome that its promise says

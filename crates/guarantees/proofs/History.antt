@@ -10,16 +10,15 @@ use Rattle.rules.specs.declared.Head.{Head}
 use Rattle.rules.specs.declared.Posting.{Posting}
 use Rattle.rules.specs.Table.{wellFormed}
 use Rattle.rules.specs.Answers.{isAccepted, poisons}
-use Rattle.rules.specs.Checks.{Call}
+use Rattle.rules.specs.Orders.{Call, lending}
+use Rattle.rules.specs.declared.Done.{Done}
 use Rattle.rules.specs.Calls.{Outcome, countOf}
 use Rattle.laws.proofs.Answers.{told-injective}
 use Rattle.history.specs.History as claim
 use Rattle.history.specs.History.{Index, published, indexOf, after, outcomes, unbroken, accepted, acceptedOutcomes, said, ownCount, Holds}
 use Rattle.history.proofs.History.{after-append, right-or-withheld, empty-holds}
 use Rattle.publish.proofs.Outcomes.{seen-outcome}
-use Rattle.publish.specs.declared.Done.{Done}
 use Rattle.publish.specs.Promises.{PublishPromise}
-use Rattle.refusals.specs.Lending.{lending}
 use Rattle.entry.specs.Asking.{flat}
 use Rattle.entry.specs.Promises.{EntryPromise}
 use Rattle.guarantees.specs.Runs.{Made, outcome, left, Kept, Run, none, next, end, calls, seenAfter, taken, sound, CallsRight, CallsWithheld, CallsRightOrWithheld}

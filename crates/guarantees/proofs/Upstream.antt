@@ -7,16 +7,15 @@ use lib.ListN.{length}
 use Rattle.strips.specs.Strips.{properStrip}
 use Rattle.rules.specs.declared.Answer.{Answer}
 use Rattle.rules.specs.declared.Head.{Head}
-use Rattle.rules.specs.Orders.{destinations}
+use Rattle.rules.specs.Orders.{destinations, Call, changesOf}
 use Rattle.rules.specs.Answers.{isAccepted}
-use Rattle.rules.specs.Checks.{Call, changesOf}
-use Rattle.rules.specs.Calls.{asBefore, prepareOf, rollbackOf, removalOf}
+use Rattle.rules.specs.declared.Done.{Done}
+use Rattle.rules.specs.Calls.{asBefore, prepareOf, rollbackOf, removalOf, outcomeOf}
 use Rattle.laws.specs.Words.{Quiet}
 use Rattle.history.specs.Upstream.{PrepareClauses, RollbackClauses, RemovalClauses, backOf}
 use Rattle.history.proofs.Upstream as law
 use Rattle.history.proofs.Restores as restored
-use Rattle.publish.specs.declared.Done.{Done}
-use Rattle.publish.specs.Promises.{outcomeOf, PreparePromise, RollbackPromise, RemovalPromise}
+use Rattle.publish.specs.Promises.{PreparePromise, RollbackPromise, RemovalPromise}
 use Rattle.publish.proofs.Outcomes.{seen-outcome}
 
 module _ (head : Head) (table : List ℕ) (c : Call) (r : Done) (t l : List ℕ) where

@@ -7,11 +7,11 @@ use Rattle.rules.specs.declared.Answer.{Answer}
 use Rattle.rules.specs.declared.Posting.{Posting}
 use Rattle.rules.specs.Postings.{present, counted}
 use Rattle.rules.specs.Answers.{isAccepted, poisons}
-use Rattle.rules.specs.Checks.{Call}
-use Rattle.rules.specs.Calls.{Outcome, asBefore}
+use Rattle.rules.specs.Orders.{Call}
+use Rattle.rules.specs.declared.Done.{Done}
+use Rattle.rules.specs.Calls.{Outcome, asBefore, outcomeOf}
 use Rattle.history.specs.History.{Index, postingsIn, said, saidOf, ownCount, holding, quiet, Holds, Alike, CountSaid}
-use Rattle.publish.specs.declared.Done.{Done}
-use Rattle.publish.specs.Promises.{outcomeOf, PublishPromise, CountPromise}
+use Rattle.publish.specs.Promises.{PublishPromise, CountPromise}
 
 -- a call of publish that was made: what it was lent, the result that it returned, and the table and record list as it left them
 pub record Made : Type 0 where

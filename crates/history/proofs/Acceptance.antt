@@ -14,9 +14,9 @@ use Rattle.rules.specs.declared.Answer.{Answer}
 use Rattle.rules.specs.declared.Verdict.{Verdict}
 use Rattle.rules.specs.Postings.{counted, ascending}
 use Rattle.rules.specs.Table.{postings, capacity, laidOut}
-use Rattle.rules.specs.Orders.{Numbered}
+use Rattle.rules.specs.Orders.{Numbered, Call}
 use Rattle.rules.specs.Answers.{settled, isAccepted}
-use Rattle.rules.specs.Checks.{countChecks, Call, prepareChecks, rollbackChecks, removalChecks, publishChecks}
+use Rattle.rules.specs.Checks.{countChecks, prepareChecks, rollbackChecks, removalChecks, publishChecks}
 use Rattle.rules.specs.Calls.{countOf, Outcome, prepared, prepareOf, rollbackOf, removalOf, publishOf}
 use Rattle.laws.specs.Words.{postingsBefore, added, takenAway, numberAt, Quiet, Noisy}
 use Rattle.booleans.proofs.Tests.{impossible, clash}

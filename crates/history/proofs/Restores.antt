@@ -13,9 +13,9 @@ use Rattle.rules.specs.declared.Head.{Head}
 use Rattle.rules.specs.declared.Answer.{Answer}
 use Rattle.rules.specs.declared.Verdict.{Verdict}
 use Rattle.rules.specs.Table.{postings, laidOut}
-use Rattle.rules.specs.Orders.{Numbered, destinations, numbersOf, recorded}
+use Rattle.rules.specs.Orders.{Numbered, destinations, numbersOf, recorded, Call, changesOf}
 use Rattle.rules.specs.Answers.{isAccepted, poisons, settled}
-use Rattle.rules.specs.Checks.{Call, changesOf, tableCheck, poisonCheck, listCheck, stripCheck, guardCheck, recordCheck, prepareChecks, rollbackChecks}
+use Rattle.rules.specs.Checks.{tableCheck, poisonCheck, listCheck, stripCheck, guardCheck, recordCheck, prepareChecks, rollbackChecks}
 use Rattle.rules.specs.Publication.{Stage, rolledBack}
 use Rattle.rules.specs.Calls.{Outcome, asBefore, shown, prepareOf, rollbackOf}
 use Rattle.laws.specs.Words.{postingsBefore, takenAway, Quiet}

@@ -14,9 +14,9 @@ use Rattle.rules.specs.declared.Answer.{Answer}
 use Rattle.rules.specs.declared.Verdict.{Verdict}
 use Rattle.rules.specs.Postings.{present}
 use Rattle.rules.specs.Table.{capacity, postings, laidOut}
-use Rattle.rules.specs.Orders.{Numbered, destinations, sources, postingsOf, numbersOf, recorded}
+use Rattle.rules.specs.Orders.{Numbered, destinations, sources, postingsOf, numbersOf, recorded, Call, changesOf}
 use Rattle.rules.specs.Answers.{isAccepted, poisons}
-use Rattle.rules.specs.Checks.{Call, changesOf, prepareChecks, rollbackChecks, removalChecks}
+use Rattle.rules.specs.Checks.{prepareChecks, rollbackChecks, removalChecks}
 use Rattle.rules.specs.Publication.{Stage, rolledBack}
 use Rattle.rules.specs.Calls.{Outcome, asBefore, decided, shown, prepared, prepareOf, rollbackOf, removalOf}
 use Rattle.laws.specs.Words.{postingsBefore, isRefusal, added, takenAway, RemovedOnly, Stable, isUnchanged}

@@ -14,8 +14,8 @@ use Rattle.rules.specs.declared.Answer.{Answer}
 use Rattle.rules.specs.declared.Verdict.{Verdict}
 use Rattle.rules.specs.Postings.{present, ascending, counted}
 use Rattle.rules.specs.Table.{capacity, postings, laidOut}
-use Rattle.rules.specs.Orders.{Numbered, destinations, sources, postingsOf, numbersOf, recorded}
-use Rattle.rules.specs.Checks.{Call, changesOf, prepareChecks, rollbackChecks, removalChecks, publishChecks, countChecks}
+use Rattle.rules.specs.Orders.{Numbered, destinations, sources, postingsOf, numbersOf, recorded, Call, changesOf}
+use Rattle.rules.specs.Checks.{prepareChecks, rollbackChecks, removalChecks, publishChecks, countChecks}
 use Rattle.rules.specs.Calls.{Outcome}
 use Rattle.laws.specs.Words.{numberAt, Quiet, Noisy}
 

@@ -11,9 +11,9 @@ use Rattle.rules.specs.declared.Head.{Head}
 use Rattle.rules.specs.declared.Answer.{Answer}
 use Rattle.rules.specs.Postings.{present, counted}
 use Rattle.rules.specs.Table.{postings, laidOut, wellFormed}
-use Rattle.rules.specs.Orders.{destinations, sources, postingsOf}
+use Rattle.rules.specs.Orders.{destinations, sources, postingsOf, Call, changesOf}
 use Rattle.rules.specs.Answers.{isAccepted, poisons}
-use Rattle.rules.specs.Checks.{Call, changesOf, among}
+use Rattle.rules.specs.Checks.{among}
 use Rattle.rules.specs.Calls.{Outcome, asBefore, headWith, publishOf, countOf}
 use Rattle.laws.specs.Words.{added, takenAway, rising}
 

@@ -13,9 +13,9 @@ use Rattle.rules.specs.declared.Change.{Change}
 use Rattle.rules.specs.declared.Verdict.{Verdict}
 use Rattle.rules.specs.Postings.{present}
 use Rattle.rules.specs.Table.{postings}
-use Rattle.rules.specs.Orders.{guards, destinations, sources, postingsOf, numbersOf, noChange, recorded}
+use Rattle.rules.specs.Orders.{guards, destinations, sources, postingsOf, numbersOf, noChange, recorded, Call, changesOf}
 use Rattle.rules.specs.Answers.{isAccepted, poisons}
-use Rattle.rules.specs.Checks.{Call, changesOf, guarded, recordable, among, recordFrom}
+use Rattle.rules.specs.Checks.{guarded, recordable, among, recordFrom}
 use Rattle.rules.specs.Calls.{Outcome, asBefore}
 use Rattle.laws.specs.Words.{postingsBefore, nowhere, RemovedOnly, Stable, rising, isRefusal}
 use Rattle.laws.specs.Names.{Apart, Repeated}

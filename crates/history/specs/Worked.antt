@@ -6,7 +6,7 @@ use mathlib.Core.Bool.{true, false}
 use lib.ListN.{replicate}
 use Rattle.rules.specs.Table.{numbers}
 use Rattle.rules.specs.Answers.{toldOf}
-use Rattle.rules.specs.Checks.{Call}
+use Rattle.rules.specs.Orders.{Call}
 use Rattle.rules.specs.Calls.{Outcome}
 use Rattle.rules.specs.Trial.{computing}
 use Rattle.laws.specs.Words.{added, takenAway}

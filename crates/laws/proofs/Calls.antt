@@ -12,7 +12,8 @@ use Rattle.rules.specs.declared.Answer.{Answer}
 use Rattle.rules.specs.declared.Verdict.{Verdict}
 use Rattle.rules.specs.Table.{capacity, wellFormed}
 use Rattle.rules.specs.Answers.{isAccepted, poisons, settled}
-use Rattle.rules.specs.Checks.{Call, prepareChecks, rollbackChecks, removalChecks, publishChecks, countChecks}
+use Rattle.rules.specs.Checks.{prepareChecks, rollbackChecks, removalChecks, publishChecks, countChecks}
+use Rattle.rules.specs.Orders.{Call}
 use Rattle.rules.specs.Publication.{Stage, rolledBack, thenSources}
 use Rattle.rules.specs.Calls.{Outcome, asBefore, decided, headAfter, shown, prepared, prepareOf, rollbackOf, removalOf, publishOf, countOf}
 use Rattle.laws.specs.Words.{postingsBefore, isUnchanged, Stable, AsBefore, StaysWellFormed, RefusesPoisoned}

@@ -11,9 +11,9 @@ use Rattle.rules.specs.declared.Head.{Head}
 use Rattle.rules.specs.declared.Answer.{Answer}
 use Rattle.rules.specs.declared.Verdict.{Verdict}
 use Rattle.rules.specs.Table.{capacity, postings, laidOut, wellFormed}
-use Rattle.rules.specs.Orders.{Numbered, destinations, sources, numbersOf, recorded}
+use Rattle.rules.specs.Orders.{Numbered, destinations, sources, numbersOf, recorded, Call, changesOf}
 use Rattle.rules.specs.Answers.{isAccepted, poisons}
-use Rattle.rules.specs.Checks.{Call, changesOf, prepareChecks, rollbackChecks, removalChecks, publishChecks}
+use Rattle.rules.specs.Checks.{prepareChecks, rollbackChecks, removalChecks, publishChecks}
 use Rattle.rules.specs.Publication.{Undone, undoing, Stage, removing, rolledBack, thenSources}
 use Rattle.rules.specs.Calls.{headWith, Outcome, asBefore, decided, shown, recordAfter, prepared, prepareOf, rollbackOf, removalOf, publishOf}
 use Rattle.laws.specs.Words.{postingsBefore, added, takenAway}

@@ -12,9 +12,8 @@ use Rattle.rules.specs.declared.Head.{Head}
 use Rattle.rules.specs.declared.Answer.{Answer}
 use Rattle.rules.specs.Answers.{toldOf, poisons}
 use Rattle.rules.specs.Postings.{present, inserted, removed}
-use Rattle.rules.specs.Orders.{Numbered}
+use Rattle.rules.specs.Orders.{Numbered, Call}
 use Rattle.rules.specs.Table.{postings, wellFormed}
-use Rattle.rules.specs.Checks.{Call}
 use Rattle.rules.specs.Calls.{Outcome, asBefore}
 
 -- the postings of a table with its head, as a call finds them

@@ -1,3 +1,2 @@
--- The laws of the public calls: what was reached, shown in the lent table; and one outcome for each call.
-pub mod Showing
+-- The laws of the public calls: one outcome for each.
 pub mod Outcomes

@@ -5,13 +5,13 @@ use mathlib.Core.List.{List}
 use mathlib.Core.Bool.{Bool}
 use Rattle.rules.specs.declared.Answer.{Answer}
 use Rattle.rules.specs.declared.Head.{Head}
-use Rattle.rules.specs.Checks.{Call}
-use Rattle.rules.specs.Calls.{Outcome, prepareOf, rollbackOf, removalOf, publishOf}
+use Rattle.rules.specs.Orders.{Call, lending}
+use Rattle.rules.specs.declared.Done.{Done}
+use Rattle.rules.specs.Calls.{Outcome, prepareOf, rollbackOf, removalOf, publishOf, outcomeOf}
 use Rattle.laws.proofs.Answers.{told-injective}
-use Rattle.refusals.specs.Lending.{lending, LookedAt}
+use Rattle.refusals.specs.Lending.{LookedAt}
 use Rattle.refusals.proofs.Firsts.{looked-at}
-use Rattle.publish.specs.declared.Done.{Done}
-use Rattle.publish.specs.Promises.{Seen, seen, seenOf, outcomeOf, PreparePromise, RollbackPromise, RemovalPromise, PublishPromise, guardedOf, GuardedPromise, CountPromise}
+use Rattle.publish.specs.Promises.{Seen, seen, seenOf, PreparePromise, RollbackPromise, RemovalPromise, PublishPromise, guardedOf, GuardedPromise, CountPromise}
 
 -- what is seen determines the outcome: numbers tell answers apart
 pub seen-outcome : (r : Done) (t l : List ℕ) (o : Outcome) → seen r t l ≡ seenOf o → outcomeOf r t l ≡ o

@@ -7,12 +7,11 @@ use Rattle.rules.specs.declared.Head.{Head}
 use Rattle.rules.specs.declared.Answer.{Answer}
 use Rattle.rules.specs.declared.Told.{Told}
 use Rattle.rules.specs.Answers.{toldOf}
-use Rattle.rules.specs.Checks.{Call}
-use Rattle.rules.specs.Orders.{changes, destinations, sources}
+use Rattle.rules.specs.declared.Done.{Done}
+use Rattle.rules.specs.Orders.{changes, destinations, sources, Call, lending}
 use Rattle.rules.specs.Publication.{thenSources}
 use Rattle.rules.specs.Calls.{Outcome, asBefore, decided, shown, recordAfter, prepared, prepareOf, rollbackOf, removalOf, publishOf, countOf}
-use Rattle.refusals.specs.Lending.{lending, guardedChecks}
-use Rattle.publish.specs.declared.Done.{Done}
+use Rattle.refusals.specs.Lending.{guardedChecks}
 
 -- the numbers of the answer, the head, and every number of the table and of the record list
 pub record Seen : Type 0 where
@@ -29,22 +28,18 @@ seen r table list = record { told = toldOf (r .answer); head = r .head; table = 
 abbrev pub seenOf : Outcome → Seen
 seenOf o = record { told = toldOf (o .answer); head = o .head; table = o .table; recordList = o .recordList }
 
--- a result as an outcome of the rules
-abbrev pub outcomeOf : Done → List ℕ → List ℕ → Outcome
-outcomeOf r table list = record { answer = r .answer; head = r .head; table = table; recordList = list }
-
 -- the promises: at entry head, table and what is lent; on return the result, the table and the record list
 abbrev pub PreparePromise : Head → List ℕ → Call → Done → List ℕ → List ℕ → Type 0
-PreparePromise head table c r table′ list′ = seen r table′ list′ ≡ seenOf (prepareOf head table c)
+PreparePromise head table c r tableLeft listLeft = seen r tableLeft listLeft ≡ seenOf (prepareOf head table c)
 
 abbrev pub RollbackPromise : Head → List ℕ → Call → Done → List ℕ → List ℕ → Type 0
-RollbackPromise head table c r table′ list′ = seen r table′ list′ ≡ seenOf (rollbackOf head table c)
+RollbackPromise head table c r tableLeft listLeft = seen r tableLeft listLeft ≡ seenOf (rollbackOf head table c)
 
 abbrev pub RemovalPromise : Head → List ℕ → Call → Done → List ℕ → List ℕ → Type 0
-RemovalPromise head table c r table′ list′ = seen r table′ list′ ≡ seenOf (removalOf head table c)
+RemovalPromise head table c r tableLeft listLeft = seen r tableLeft listLeft ≡ seenOf (removalOf head table c)
 
 abbrev pub PublishPromise : Head → List ℕ → Call → Done → List ℕ → List ℕ → Type 0
-PublishPromise head table c r table′ list′ = seen r table′ list′ ≡ seenOf (publishOf head table c)
+PublishPromise head table c r tableLeft listLeft = seen r tableLeft listLeft ≡ seenOf (publishOf head table c)
 
 -- publish for a caller that has looked at the guards itself: the same work, after the checks beside what it says of them
 unfoldable pub guardedOf : Head → List ℕ → List ℕ → Bool → ℕ → List ℕ → List ℕ → Outcome
@@ -54,8 +49,8 @@ guardedOf head table cs paired unheld strip list =
     (thenSources strip (sources (changes cs)) (prepared head table (lending cs [] strip list))))
 
 abbrev pub GuardedPromise : Head → List ℕ → List ℕ → Bool → ℕ → List ℕ → List ℕ → Done → List ℕ → List ℕ → Type 0
-GuardedPromise head table cs paired unheld strip list r table′ list′ =
-    seen r table′ list′ ≡ seenOf (guardedOf head table cs paired unheld strip list)
+GuardedPromise head table cs paired unheld strip list r tableLeft listLeft =
+    seen r tableLeft listLeft ≡ seenOf (guardedOf head table cs paired unheld strip list)
 
 -- a count only reads: its answer is all that is seen
 abbrev pub CountPromise : Head → List ℕ → ℕ → ℕ → Answer → Type 0

@@ -1,21 +1,13 @@
 // The posting calls: head by value, guards as flat numbers, every list lent. Any numbers may come in: a call refuses by number
 // and then changes nothing, or does the work that the rules say. Each promise says of all that is seen afterwards that it is what
 // the rules say.
-mod work;
-
 use rules::Answer;
+use rules::Done;
 use rules::Head;
 use rules::Verdict;
 ghost use mathlib.Core.List.{[]};
-ghost use Rattle.refusals.specs.Lending.{lending};
+ghost use Rattle.rules.specs.Orders.{lending};
 ghost use Rattle.publish.specs.Promises.{PreparePromise, RollbackPromise, RemovalPromise, PublishPromise, GuardedPromise, CountPromise};
-
-// What a call answers, and the head that it leaves. The head goes by value: the next call on this table must be given this one,
-// or a poison flag that 12 or 13 set is lost.
-pub struct Done {
-    pub head: Head,
-    pub answer: Answer,
-}
 
 // Puts the destinations of a change list into the table, all of them or none, and writes their change numbers into the record
 // list. An accepted answer names how many they are.

@@ -14,12 +14,12 @@ use Rattle.rules.specs.declared.Verdict.{Verdict}
 use Rattle.rules.specs.Limits.{mostChanges}
 use Rattle.rules.specs.Postings.{every}
 use Rattle.rules.specs.Table.{wellFormed}
-use Rattle.rules.specs.Orders.{changes, guards, properChanges, properGuards, properLists, destinationOf, noChange}
+use Rattle.rules.specs.Orders.{changes, guards, properChanges, properGuards, properLists, destinationOf, noChange, lending}
 use Rattle.rules.specs.Checks.{must, orElse, firstRefusal, tableCheck, poisonCheck, listCheck, stripCheck, roomCheck, guardCheck, isNamed, recordable, among, recordFrom, recordCheck, twiceCheck, presentCheck, overlapCheck, prepareChecks, rollbackChecks, removalChecks, publishChecks, countChecks}
 use Rattle.laws.proofs.Checks.{must-holds, first-passes, else-first, else-second}
 use Rattle.checks.specs.Guarding.{properBeside, bindingsFrom}
 use Rattle.checks.proofs.Guarding.{unheld-known}
-use Rattle.refusals.specs.Lending.{lending, guardedChecks, LookedAt}
+use Rattle.refusals.specs.Lending.{guardedChecks, LookedAt}
 
 -- one part of the checks, and where it passes the others
 unfoldable pub andThen : Verdict → Verdict → Verdict

@@ -1,4 +1,4 @@
--- What a call lends beside table and head; and publish for a caller that has looked at the guards itself.
+-- Publish for a caller that has looked at the guards itself.
 use Prim.Native.Nat.{ℕ}
 use mathlib.Core.Path.{_≡_}
 use mathlib.Core.List.{List, [], _∷_}
@@ -6,14 +6,9 @@ use mathlib.Core.Bool.{Bool, true}
 use Rattle.rules.specs.declared.Head.{Head}
 use Rattle.rules.specs.declared.Answer.{Answer}
 use Rattle.rules.specs.declared.Verdict.{Verdict}
-use Rattle.rules.specs.Orders.{changes, guards, properGuards, properLists}
-use Rattle.rules.specs.Checks.{Call, must, firstRefusal, tableCheck, poisonCheck, stripCheck, roomCheck, twiceCheck, presentCheck, overlapCheck}
+use Rattle.rules.specs.Orders.{lending, changes, guards, properGuards, properLists}
+use Rattle.rules.specs.Checks.{must, firstRefusal, tableCheck, poisonCheck, stripCheck, roomCheck, twiceCheck, presentCheck, overlapCheck}
 use Rattle.checks.specs.Guarding.{properBeside, firstUnheld, bindingsFrom}
-
--- a call that lends these lists
-abbrev pub lending : List ℕ → List ℕ → List ℕ → List ℕ → Call
-lending changes guards strip list =
-    record { changeList = changes; guardList = guards; strip = strip; recordList = list }
 
 -- publish 1 to 9 beside guards that are proper or not, where the first change with a key that they do not hold is known
 unfoldable pub guardedChecks : Head → List ℕ → List ℕ → Bool → ℕ → List ℕ → List ℕ → Verdict

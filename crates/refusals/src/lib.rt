@@ -11,10 +11,10 @@ ghost use lib.ListN.{length};
 ghost use Rattle.rules.specs.declared.Answer.{Answer};
 ghost use Rattle.rules.specs.Limits.{mostChanges};
 ghost use Rattle.rules.specs.Table.{wellFormed};
-ghost use Rattle.rules.specs.Orders.{changes};
+ghost use Rattle.rules.specs.Orders.{changes, lending};
 ghost use Rattle.rules.specs.Checks.{must, firstRefusal, tableCheck, poisonCheck, stripCheck, roomCheck, twiceCheck, presentCheck, prepareChecks, rollbackChecks, removalChecks, publishChecks, countChecks};
 ghost use Rattle.checks.specs.Guarding.{properBeside};
-ghost use Rattle.refusals.specs.Lending.{lending, guardedChecks};
+ghost use Rattle.refusals.specs.Lending.{guardedChecks};
 
 // 1 TABLE, 2 POISONED.
 fn of_table(head: Head, table: &[u32]) -> Verdict
@@ -95,11 +95,11 @@ fn of_destinations(head: Head, table: &[u32], list: &[u32], guarded: Verdict) ->
     let Verdict::Passes = guarded else {
         return guarded;
     };
-    let single = checks::check_twice(list);
+    let single = clashes::check_twice(list);
     let Verdict::Passes = single else {
         return single;
     };
-    checks::check_present(table, head.used as usize, list)
+    clashes::check_present(table, head.used as usize, list)
 }
 
 // 1 to 8.
@@ -139,7 +139,7 @@ pub fn of_publish(
     let Verdict::Passes = ready else {
         return ready;
     };
-    checks::check_overlap(list)
+    clashes::check_overlap(list)
 }
 
 // 1 to 9 for a caller that has looked at the guards itself: it says whether they are proper, and which change is the first with
@@ -165,7 +165,7 @@ pub fn of_guarded_publish(
     let Verdict::Passes = clear else {
         return clear;
     };
-    checks::check_overlap(list)
+    clashes::check_overlap(list)
 }
 
 // 1 to 4, 6.

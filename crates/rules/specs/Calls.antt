@@ -6,13 +6,14 @@ use lib.ListN.{length}
 use Rattle.lent_lists.specs.Written.{written}
 use Rattle.rules.specs.declared.Posting.{Posting}
 use Rattle.rules.specs.declared.Head.{Head}
+use Rattle.rules.specs.declared.Done.{Done}
 use Rattle.rules.specs.declared.Answer.{Answer}
 use Rattle.rules.specs.declared.Verdict.{Verdict}
 use Rattle.rules.specs.Postings.{counted}
 use Rattle.rules.specs.Table.{capacity, postings, laidOut}
-use Rattle.rules.specs.Orders.{Numbered, destinations, sources, numbersOf, recorded}
+use Rattle.rules.specs.Orders.{Numbered, destinations, sources, numbersOf, recorded, Call, changesOf}
 use Rattle.rules.specs.Answers.{isAccepted, poisons, settled}
-use Rattle.rules.specs.Checks.{Call, changesOf, prepareChecks, rollbackChecks, removalChecks, publishChecks, countChecks}
+use Rattle.rules.specs.Checks.{prepareChecks, rollbackChecks, removalChecks, publishChecks, countChecks}
 use Rattle.rules.specs.Publication.{undoing, Stage, preparing, removing, rolledBack, thenSources}
 
 -- all that is seen after a call
@@ -21,6 +22,10 @@ pub record Outcome : Type 0 where
   pub head : Head
   pub table : List ℕ
   pub recordList : List ℕ
+
+-- what a call returned, with the table and the record list that it left
+abbrev pub outcomeOf : Done → List ℕ → List ℕ → Outcome
+outcomeOf r table list = record { answer = r .answer; head = r .head; table = table; recordList = list }
 
 -- a refusal changes nothing
 abbrev pub asBefore : Head → List ℕ → List ℕ → Answer → Outcome
@@ -51,7 +56,7 @@ shown head table list s =
 
 -- the record is written only after the last insertion, in the first places of its list; places past it stay
 abbrev pub recordAfter : Stage → List Numbered → List ℕ → List ℕ
-recordAfter prepared ds list = cond (isAccepted (prepared .answer)) (written (numbersOf ds) list) list
+recordAfter stage ds list = cond (isAccepted (stage .answer)) (written (numbersOf ds) list) list
 
 module _ (head : Head) (table : List ℕ) (c : Call) where
   -- the prepare part of prepare and publish

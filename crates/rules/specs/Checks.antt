@@ -13,18 +13,7 @@ use Rattle.rules.specs.declared.Answer.{Answer}
 use Rattle.rules.specs.declared.Verdict.{Verdict}
 use Rattle.rules.specs.Postings.{same, present}
 use Rattle.rules.specs.Table.{postings, wellFormed}
-use Rattle.rules.specs.Orders.{changes, guards, held, properLists, Numbered, destinationOf, destinations, sources, postingsOf, noChange}
-
--- what a call lends beside table and head; the record list is written by prepare and publish and read by rollback
-pub record Call : Type 0 where
-  pub changeList : List ℕ
-  pub guardList : List ℕ
-  pub strip : List ℕ
-  pub recordList : List ℕ
-
--- the changes that its change list means
-abbrev pub changesOf : Call → List Change
-changesOf c = changes (c .changeList)
+use Rattle.rules.specs.Orders.{guards, held, properLists, Call, changesOf, Numbered, destinationOf, destinations, sources, postingsOf, noChange}
 
 -- a test that must hold, and the answer where it doesn't
 abbrev pub must : Bool → Answer → Verdict

@@ -7,7 +7,7 @@ use lib.ListN.{replicate}
 use Rattle.rules.specs.declared.Head.{Head}
 use Rattle.rules.specs.declared.Told.{Told}
 use Rattle.rules.specs.Answers.{toldOf}
-use Rattle.rules.specs.Checks.{Call}
+use Rattle.rules.specs.Orders.{Call, lending}
 use Rattle.rules.specs.Calls.{Outcome, prepareOf, rollbackOf, removalOf, publishOf, countOf}
 use Rattle.rules.specs.Letters.{Row, seen, row, short, whole}
 use Rattle.rules.specs.Trial.{computing}
@@ -57,12 +57,9 @@ keys = 0 ∷ 5 ∷ 0 ∷ 6 ∷ 1 ∷ 9 ∷ []
 abbrev pub blank : List ℕ
 blank = 77 ∷ 77 ∷ 77 ∷ 77 ∷ []
 
-abbrev pub lent : List ℕ → List ℕ → List ℕ → List ℕ → Call
-lent cs gs strip list = record { changeList = cs; guardList = gs; strip = strip; recordList = list }
-
 -- what is seen of a call under those guards
 abbrev pub try : (Head → List ℕ → Call → Outcome) → Head → List ℕ → List ℕ → List ℕ → List ℕ → Row
-try call h table cs strip list = seen (call h table (lent cs keys strip list))
+try call h table cs strip list = seen (call h table (lending cs keys strip list))
 
 -- a publish with no change
 abbrev pub idle : Head → List ℕ → Row
@@ -73,7 +70,7 @@ abbrev pub publish : List ℕ → List ℕ → Row
 publish cs strip = try publishOf (head 2 2 0) whole cs strip blank
 
 abbrev pub publishUnder : List ℕ → List ℕ → Row
-publishUnder gs cs = seen (publishOf (head 2 2 0) whole (lent cs gs [] blank))
+publishUnder gs cs = seen (publishOf (head 2 2 0) whole (lending cs gs [] blank))
 
 abbrev pub prepare : List ℕ → List ℕ → Row
 prepare cs strip = try prepareOf (head 2 2 0) whole cs strip blank
@@ -557,7 +554,7 @@ record-lists = refl
 
 -- the head that a call leaves, under binding count 3
 abbrev pub headOf : (Head → List ℕ → Call → Outcome) → List ℕ → List ℕ → List ℕ → Head
-headOf call cs strip list = call (head 3 2 0) whole (lent cs keys strip list) .head
+headOf call cs strip list = call (head 3 2 0) whole (lending cs keys strip list) .head
 
 pub heads :
     Hold
@@ -579,10 +576,10 @@ heads = refl
 
 -- answer alone: a publish on the table of the lettered orders, and on a table of so many zeros
 abbrev pub answerTo : List ℕ → List ℕ → List ℕ → List ℕ → Told
-answerTo cs gs strip list = toldOf (publishOf (head 2 2 0) whole (lent cs gs strip list) .answer)
+answerTo cs gs strip list = toldOf (publishOf (head 2 2 0) whole (lending cs gs strip list) .answer)
 
 abbrev pub answerOn : ℕ → Told
-answerOn size = toldOf (publishOf (head 2 0 0) (replicate size 0) (lent [] [] [] []) .answer)
+answerOn size = toldOf (publishOf (head 2 0 0) (replicate size 0) (lending [] [] [] []) .answer)
 
 pub limits :
     Hold

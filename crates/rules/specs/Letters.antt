@@ -28,9 +28,9 @@ seen o =
 
 -- a row by its numbers; its answer names one value
 unfoldable pub row : ℕ → ℕ → ℕ → ℕ → List ℕ → List ℕ → Row
-row answer change used poisoned table list =
+row answer named used poisoned table list =
     record {
-      told = record { answer = answer; named = change; other = 0 };
+      told = record { answer = answer; named = named; other = 0 };
       used = used;
       poisoned = poisoned;
       table = table;

@@ -5,8 +5,8 @@ pub mod Table
 pub mod Orders
 pub mod Storage
 pub mod Answers
-pub mod Checks
 pub mod Publication
+pub mod Checks
 pub mod Calls
 pub mod Trial
 pub mod Letters

@@ -1,4 +1,4 @@
--- What an order lends beside a strip: a change list and guards; and the destinations and sources that the changes name.
+-- What a call lends: a change list, guards, a strip and a record list; and the destinations and sources that the changes name.
 use Prim.Native.Nat.{ℕ, _+_, _%_}
 use mathlib.Core.List.{List, [], _∷_, map}
 use mathlib.Core.Bool.{Bool, true, false, cond, _&&_, _||_}
@@ -19,11 +19,11 @@ unfoldable pub changes : List ℕ → List Change
 changes [] = []
 changes (binding ∷ []) = []
 changes (binding ∷ row ∷ []) = []
-changes (binding ∷ row ∷ flag ∷ []) = []
-changes (binding ∷ row ∷ flag ∷ key ∷ []) = []
-changes (binding ∷ row ∷ flag ∷ key ∷ flag′ ∷ []) = []
-changes (binding ∷ row ∷ flag ∷ key ∷ flag′ ∷ key′ ∷ rest) =
-    record { binding = binding; row = row; before = keyOf flag key; after = keyOf flag′ key′ } ∷ changes rest
+changes (binding ∷ row ∷ beforeFlag ∷ []) = []
+changes (binding ∷ row ∷ beforeFlag ∷ beforeKey ∷ []) = []
+changes (binding ∷ row ∷ beforeFlag ∷ beforeKey ∷ afterFlag ∷ []) = []
+changes (binding ∷ row ∷ beforeFlag ∷ beforeKey ∷ afterFlag ∷ afterKey ∷ rest) =
+    record { binding = binding; row = row; before = keyOf beforeFlag beforeKey; after = keyOf afterFlag afterKey } ∷ changes rest
 
 -- a flag is 0 or 1; with flag 0 the key is 0
 abbrev pub properKey : ℕ → ℕ → Bool
@@ -34,11 +34,11 @@ unfoldable pub properChanges : List ℕ → Bool
 properChanges [] = true
 properChanges (binding ∷ []) = false
 properChanges (binding ∷ row ∷ []) = false
-properChanges (binding ∷ row ∷ flag ∷ []) = false
-properChanges (binding ∷ row ∷ flag ∷ key ∷ []) = false
-properChanges (binding ∷ row ∷ flag ∷ key ∷ flag′ ∷ []) = false
-properChanges (binding ∷ row ∷ flag ∷ key ∷ flag′ ∷ key′ ∷ rest) =
-    properKey flag key && properKey flag′ key′ && properChanges rest
+properChanges (binding ∷ row ∷ beforeFlag ∷ []) = false
+properChanges (binding ∷ row ∷ beforeFlag ∷ beforeKey ∷ []) = false
+properChanges (binding ∷ row ∷ beforeFlag ∷ beforeKey ∷ afterFlag ∷ []) = false
+properChanges (binding ∷ row ∷ beforeFlag ∷ beforeKey ∷ afterFlag ∷ afterKey ∷ rest) =
+    properKey beforeFlag beforeKey && properKey afterFlag afterKey && properChanges rest
 
 -- two numbers to a guard: binding, key
 unfoldable pub guards : List ℕ → List Guard
@@ -48,11 +48,12 @@ guards (binding ∷ key ∷ rest) = record { binding = binding; key = key } ∷ 
 
 -- whole pairs of guard numbers, not over their limit
 unfoldable pub properGuards : List ℕ → Bool
-properGuards gs = eqb (length gs % 2) 0 && leb (length (guards gs)) mostGuards
+properGuards guardList = eqb (length guardList % 2) 0 && leb (length (guards guardList)) mostGuards
 
 -- a well-formed change list, not over its limit, and such guards
 unfoldable pub properLists : List ℕ → List ℕ → Bool
-properLists cs gs = properChanges cs && leb (length (changes cs)) mostChanges && properGuards gs
+properLists changeList guardList =
+    properChanges changeList && leb (length (changes changeList)) mostChanges && properGuards guardList
 
 -- the pair (binding, key) is among the guards
 unfoldable pub held : ℕ → ℕ → List Guard → Bool
@@ -112,3 +113,19 @@ noChange = record { binding = 0; row = 0; before = Key.Missing; after = Key.Miss
 unfoldable pub recorded : List Change → List ℕ → List Numbered
 recorded cs [] = []
 recorded cs (n ∷ ns) = named n (getD cs n noChange) (destinationOf (getD cs n noChange)) (recorded cs ns)
+
+-- what a call lends beside table and head; the record list is written by prepare and publish and read by rollback
+pub record Call : Type 0 where
+  pub changeList : List ℕ
+  pub guardList : List ℕ
+  pub strip : List ℕ
+  pub recordList : List ℕ
+
+-- a call that lends these lists
+abbrev pub lending : List ℕ → List ℕ → List ℕ → List ℕ → Call
+lending changeList guardList strip recordList =
+    record { changeList = changeList; guardList = guardList; strip = strip; recordList = recordList }
+
+-- the changes that its change list means
+abbrev pub changesOf : Call → List Change
+changesOf c = changes (c .changeList)

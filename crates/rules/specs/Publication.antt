@@ -55,18 +55,18 @@ preparing capacity strip (d ∷ ds) done read ps =
     byFault (i .fault) (d .number) (undoing strip done Verdict.Passes (read + 1) (i .postings))
     (preparing capacity strip ds (d ∷ done) (read + 1) (i .postings))
 
--- source removal goes up the sources and stops at the first failure; the answer is this one where none failed
-unfoldable pub removing : List ℕ → Answer → List Numbered → ℕ → List Posting → Stage
-removing strip clear [] read ps = record { answer = clear; postings = ps; read = read }
-removing strip clear (d ∷ ds) read ps =
-    let r = removal (byteAt strip read) (d .posting) ps in
-    cond (r .failed)
-    (record { answer = Answer.Source (d .number); postings = r .postings; read = read + 1 })
-    (removing strip clear ds (read + 1) (r .postings))
-
 -- rollback: accepted where no removal failed, else 12 with the last change whose removal did
 abbrev pub rolledBack : Undone → Stage
 rolledBack u = record { answer = settled (u .verdict) (Answer.Accepted 0); postings = u .postings; read = u .read }
+
+-- source removal goes up the sources and stops at the first failure; the answer is this one where none failed
+unfoldable pub removing : List ℕ → Answer → List Numbered → ℕ → List Posting → Stage
+removing strip clear [] read ps = record { answer = clear; postings = ps; read = read }
+removing strip clear (s ∷ ss) read ps =
+    let r = removal (byteAt strip read) (s .posting) ps in
+    cond (r .failed)
+    (record { answer = Answer.Source (s .number); postings = r .postings; read = read + 1 })
+    (removing strip clear ss (read + 1) (r .postings))
 
 -- publish: sources stay until every destination is in
 abbrev pub thenSources : List ℕ → List Numbered → Stage → Stage

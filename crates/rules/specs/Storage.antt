@@ -13,7 +13,7 @@ pub record Insertion : Type 0 where
   pub fault : Fault
   pub postings : List Posting
 
--- byte 0 inserts, or fails full if used = capacity; byte 1 or 2 fails unchanged
+-- byte 0 inserts, or fails full if used = capacity, which it never exceeds; byte 1 or 2 fails unchanged
 unfoldable pub insertion : ℕ → ℕ → Posting → List Posting → Insertion
 insertion byte capacity p ps =
     cond (eqb byte 0)

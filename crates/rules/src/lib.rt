@@ -1,6 +1,6 @@
 // The types that the posting rules speak of. Code, contracts and definitions share them; the rules themselves are the
-// definitions in specs/, which a reader takes in this order: Limits, Postings, Table, Orders, Storage, Answers, Checks,
-// Publication, Calls, and then Letters and Examples, where they are tried.
+// definitions in specs/, which a reader takes in this order: Limits, Postings, Table, Orders, Storage, Answers, Publication,
+// Checks, Calls, and then Letters and Examples, where they are tried.
 
 // A row that stands in the index `binding` under `key`.
 pub struct Posting {
@@ -94,8 +94,15 @@ pub struct Told {
     pub other: u32,
 }
 
-// What a check finds.
+// What a check finds. Of a run of undo removals: whether one failed, and with which change the last one did.
 pub enum Verdict {
     Passes,
     Refused(Answer),
+}
+
+// What a call answers, and the head that it leaves. The head goes by value: the next call on this table must be given this one,
+// or a poison flag that 12 or 13 set is lost.
+pub struct Done {
+    pub head: Head,
+    pub answer: Answer,
 }

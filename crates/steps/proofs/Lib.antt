@@ -1,5 +1,4 @@
--- The laws of the steps: one step by its byte, and the turns of each loop.
-pub mod Bytes
+-- The laws of the steps: the turns of each loop.
 pub mod Undos
 pub mod Removals
 pub mod Insertions

@@ -22,9 +22,10 @@ use Rattle.rules.specs.Publication.{Undone, undoing, whyNot, notInserted}
 use Rattle.changes.proofs.Walk.{named-append}
 use Rattle.table.specs.Holding.{Ordered}
 use Rattle.table.proofs.Keeping.{carries-postings, carries-ordered}
-use Rattle.steps.specs.declared.Removed.{Removed}
+use Rattle.storage.specs.declared.Removed.{Removed}
 use Rattle.steps.specs.declared.Back.{Back}
-use Rattle.steps.specs.Leaving.{RemovalIn, UndoneIn, OneUndone, StageIn, backward, asRecorded}
+use Rattle.storage.specs.Leaving.{RemovalIn}
+use Rattle.steps.specs.Leaving.{UndoneIn, OneUndone, StageIn, backward, asRecorded}
 
 -- a change with no destination leaves all as it is
 pub undone-none :

@@ -1,4 +1,4 @@
--- What a step and a run of steps leave: the rules' own steps, seen in a lent table.
+-- What a run of steps leaves: the rules' own stages, seen in a lent table.
 use Prim.Native.Nat.{ℕ, zero, suc, _+_, _≤_}
 use mathlib.Core.Path.{_≡_}
 use mathlib.Core.List.{List, []}
@@ -9,29 +9,16 @@ use Rattle.rules.specs.declared.Fault.{Fault}
 use Rattle.rules.specs.declared.Verdict.{Verdict}
 use Rattle.rules.specs.Table.{postings}
 use Rattle.rules.specs.Orders.{Numbered, named, destinationOf, noChange}
-use Rattle.rules.specs.Storage.{Insertion, Removal}
 use Rattle.rules.specs.Publication.{Undone, undoing, Stage}
 use Rattle.table.specs.Holding.{Carries, Ordered}
-use Rattle.steps.specs.declared.Inserted.{Inserted}
-use Rattle.steps.specs.declared.Removed.{Removed}
 use Rattle.steps.specs.declared.Back.{Back}
 use Rattle.steps.specs.declared.Reached.{Reached}
-
--- an insertion in a table
-pub record InsertionIn (i : Insertion) (r : Inserted) (table : List ℕ) : Type 0 where
-  pub fault : r .fault ≡ i .fault
-  pub carries : Carries table (r .used) (i .postings)
 
 -- the answer of a change whose insertion met a fault
 abbrev pub blamedOn : Fault → ℕ → Verdict
 blamedOn Fault.Nothing change = Verdict.Passes
 blamedOn Fault.Store change = Verdict.Refused (Answer.Store change)
 blamedOn Fault.Full change = Verdict.Refused (Answer.Full change)
-
--- a removal in a table
-pub record RemovalIn (o : Removal) (r : Removed) (table : List ℕ) : Type 0 where
-  pub failed : r .failed ≡ o .failed
-  pub carries : Carries table (r .used) (o .postings)
 
 -- a run of undo removals in a table, which has read at most so many bytes
 pub record UndoneIn (u : Undone) (r : Back) (table : List ℕ) (most : ℕ) : Type 0 where

@@ -8,8 +8,9 @@ use changes::source_of;
 use rules::Answer;
 use rules::Fault;
 use rules::Key;
-use rules::Posting;
 use rules::Verdict;
+use storage::insert_by;
+use storage::remove_by;
 use strips::byte_at;
 ghost use Prim.Native.Nat.{_+_, _*_, _^_, _<_, _≤_};
 ghost use mathlib.Core.Path.{_≡_};
@@ -23,22 +24,9 @@ ghost use Rattle.rules.specs.Limits.{mostChanges};
 ghost use Rattle.rules.specs.Postings.{every};
 ghost use Rattle.rules.specs.Table.{capacity, postings};
 ghost use Rattle.rules.specs.Orders.{changes, destinations, sources, numbersOf, recorded, noChange};
-ghost use Rattle.rules.specs.Storage.{insertion, removal};
 ghost use Rattle.rules.specs.Publication.{undoing, notInserted, preparing, removing};
 ghost use Rattle.table.specs.Holding.{Ordered};
-ghost use Rattle.steps.specs.Leaving.{InsertionIn, blamedOn, RemovalIn, UndoneIn, OneUndone, StageIn, backward, inOrder};
-
-// What an insertion met, and the new used.
-pub struct Inserted {
-    pub fault: Fault,
-    pub used: usize,
-}
-
-// Whether a removal failed, and the new used.
-pub struct Removed {
-    pub failed: bool,
-    pub used: usize,
-}
+ghost use Rattle.steps.specs.Leaving.{blamedOn, UndoneIn, OneUndone, StageIn, backward, inOrder};
 
 // What a run of undo removals leaves: refused with the last change whose removal failed, the used, the bytes read.
 pub struct Back {
@@ -54,31 +42,6 @@ pub struct Reached {
     pub read: usize,
 }
 
-// Byte 0 inserts, or fails full where there is no room; byte 1 or 2 fails unchanged.
-fn insert_by(byte: u8, table: &mut [u32], used: usize, p: Posting) -> Inserted
-    requires { ⌜ Ordered (now table) used ⌝ }
-    ensures { λ r. ⌜ InsertionIn (insertion byte (capacity (now (table .entry))) p (postings used (now (table .entry)))) r
-        (now (table .exit)) ⌝ }
-{
-    if byte != 0 {
-        return Inserted {
-            fault: Fault::Store,
-            used,
-        };
-    }
-    if used < table.len() / 3 {
-        let more = table::insert(table, used, p);
-        return Inserted {
-            fault: Fault::Nothing,
-            used: more,
-        };
-    }
-    Inserted {
-        fault: Fault::Full,
-        used,
-    }
-}
-
 // The answer of a change whose insertion met a fault.
 fn blamed(fault: Fault, change: u32) -> Verdict
     ensures { λ r. ⌜ r ≡ blamedOn fault change ⌝ }
@@ -87,21 +50,6 @@ fn blamed(fault: Fault, change: u32) -> Verdict
         Fault::Nothing => Verdict::Passes,
         Fault::Store => Verdict::Refused(Answer::Store(change)),
         Fault::Full => Verdict::Refused(Answer::Full(change)),
-    }
-}
-
-// Byte 0 removes; byte 1 fails unchanged; byte 2 fails with the posting gone.
-fn remove_by(byte: u8, table: &mut [u32], used: usize, p: Posting) -> Removed
-    requires { ⌜ Ordered (now table) used ⌝ }
-    ensures { λ r. ⌜ RemovalIn (removal byte p (postings used (now (table .entry)))) r (now (table .exit)) ⌝ }
-{
-    if byte == 1 {
-        return Removed { failed: true, used };
-    }
-    let left = table::remove(table, used, p);
-    Removed {
-        failed: byte != 0,
-        used: left,
     }
 }
 

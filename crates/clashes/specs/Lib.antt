@@ -1,0 +1,2 @@
+-- What the contracts of `clashes` speak of.
+pub mod Keys

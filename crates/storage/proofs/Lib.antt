@@ -1,0 +1,2 @@
+-- The laws of one step, by its byte.
+pub mod Bytes

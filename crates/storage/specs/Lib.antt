@@ -1,0 +1,2 @@
+-- What the contracts of `storage` speak of.
+pub mod Leaving

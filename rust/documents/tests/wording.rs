@@ -1,0 +1,32 @@
+//! The documents are for any reader: they name no one's machine, and no one's way of working.
+
+use documents::repository::Repository;
+
+const PHRASES: [&str; 5] = ["/work", "/opt", "/home", "/tmp", "document 01"];
+const WORDS: [&str; 4] = ["issue", "issues", "session", "sessions"];
+
+/// Which of the phrases and words a line has.
+fn unwanted(line: &str) -> Vec<&'static str> {
+    let line = line.to_lowercase();
+    let words: Vec<&str> = line.split(|c: char| !c.is_alphanumeric()).collect();
+    let phrases = PHRASES.into_iter().filter(|phrase| line.contains(phrase));
+    let whole_words = WORDS.into_iter().filter(|word| words.contains(word));
+    phrases.chain(whole_words).collect()
+}
+
+#[test]
+fn documents_name_no_machine_and_no_way_of_working() {
+    let repository = Repository::here();
+    for document in repository.documents() {
+        for (line, number) in repository.text(&document).lines().zip(1..) {
+            let found = unwanted(line);
+            assert!(found.is_empty(), "{document}, line {number}: {found:?}");
+        }
+    }
+}
+
+#[test]
+fn unwanted_words_are_seen() {
+    assert_eq!(unwanted("An Issue, in /home/me."), ["/home", "issue"]);
+    assert!(unwanted("An order that was issued.").is_empty());
+}
