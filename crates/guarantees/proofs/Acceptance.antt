@@ -16,8 +16,12 @@ use Rattle.history.proofs.Acceptance as law
 use Rattle.publish.specs.Promises.{seen, seenOf, PreparePromise, RollbackPromise, RemovalPromise, PublishPromise, CountPromise}
 use Rattle.publish.proofs.Outcomes.{seen-outcome}
 
--- a result has the answer of the outcome that its promise says
-answer-of : (r : Done) (t l : List ℕ) (o : Outcome) → seen r t l ≡ seenOf o → r .answer ≡ o .answer
+-- what holds of the outcome that a promise says holds of the result
+pub of-result : (P : Outcome → Type 0) (r : Done) (t l : List ℕ) (o : Outcome) → seen r t l ≡ seenOf o → P o → P (outcomeOf r t l)
+of-result P r t l o e h = rw (seen-outcome r t l o e) h
+
+-- and so it has that outcome's answer
+pub answer-of : (r : Done) (t l : List ℕ) (o : Outcome) → seen r t l ≡ seenOf o → r .answer ≡ o .answer
 answer-of r t l o e = ap (λ (x : Outcome). x .answer) (seen-outcome r t l o e)
 
 module _ (head : Head) (table : List ℕ) (c : Call) (r : Done) (t l : List ℕ) where

@@ -93,6 +93,12 @@ module _ (x : Index) (start : List Posting) (h : Holds x start) (ms : List Made)
             rw (← e, ← a) (w .counts binding key) in
             told-injective n (countOf (end x ms .head) (end x ms .table) binding key) k ∙ own;
         rows = λ binding key. rw (← a) (w .rows binding key);
+        again =
+            λ y more hy al ry same.
+            sym (run-end y more ry) ∙ (w .again y (calls more) hy al (rw a same) ∙ e);
+        againRecords =
+            λ y more hy al ry same.
+            sym (run-outcomes y more ry) ∙ (w .againRecords y (calls more) hy al (rw a same) ∙ run-accepted-outcomes x ms r);
         replay =
             λ y ns hy al ry same.
             sym (run-end y ns ry) ∙ (rw (same, ← a) (w .replay y hy al) ∙ e);

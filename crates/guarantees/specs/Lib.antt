@@ -1,2 +1,3 @@
 -- The words of the guarantees.
 pub mod Runs
+pub mod Exported

@@ -154,19 +154,25 @@ module _ (head : Head) (table : List ℕ) (c : Call) where
   ready-room : Clear head table c → IsReady head table c → head .used + length (going c) ≤ capacity table
   ready-room k r = let u = used-start k in let l = r .room in omega arith
 
-  stopped-fails :
-      Clear head table c → (s : IsStopped head table c) →
-      (byteAt (c .strip) (s .at) ≡ 0 → ⊥) ⊎ (head .used + s .at ≡ capacity table) →
-      Fails (capacity table) (head .used) (c .strip) (going c) (s .at)
-  stopped-fails k s f =
+  -- the insertion that stopped prepare is the first to fail
+  pub stopped-fails :
+      Clear head table c → (s : IsStopped head table c) → Fails (capacity table) (head .used) (c .strip) (going c) (s .at)
+  stopped-fails k s =
       record {
         there = s .there;
         quiet = λ i h l. s .quiet i h (omega arith);
         room = let u = used-start k in let r = s .room in omega arith;
-        fault = f;
+        fault = go (s .why) (s .cause);
       }
+    where
+      go :
+          (why : Answer) →
+          Cause (byteAt (c .strip) (0 + s .at)) (length (postingsBefore head table) + s .at) (capacity table) (numberAt (going c) (s .at)) why →
+          (byteAt (c .strip) (s .at) ≡ 0 → ⊥) ⊎ (head .used + s .at ≡ capacity table)
+      go why (Cause.store b) = inl (rw (zero-add (s .at)) at b)
+      go why (Cause.full b e) = let u = used-start k in inr (omega arith)
 
-  -- the insertion that stopped prepare is the first to fail, and its undo is clean or not
+  -- and its undo is clean or not
   stopped-ends :
       (ss : List Numbered) → Clear head table c → IsStopped head table c →
       Ends (capacity table) (head .used) (c .strip) (going c) ss (prepared head table c .answer)
@@ -175,22 +181,21 @@ module _ (head : Head) (table : List ℕ) (c : Call) where
       z : 0 + s .at ≡ s .at
       z = zero-add (s .at)
 
+      f : Fails (capacity table) (head .used) (c .strip) (going c) (s .at)
+      f = stopped-fails k s
+
       go :
           (why : Answer) →
           Cause (byteAt (c .strip) (0 + s .at)) (length (postingsBefore head table) + s .at) (capacity table) (numberAt (going c) (s .at)) why →
           TakenBack (c .strip) (0 + s .at + 1) (0 + s .at + 1 + (0 + s .at)) (postingsBefore head table) why (prepared head table c) ⊎ LeftBehind (c .strip) (0 + s .at + 1) (0 + s .at + 1 + (0 + s .at)) (numberAt (going c) (s .at)) (postingsBefore head table) (prepared head table c) →
           Ends (capacity table) (head .used) (c .strip) (going c) ss (prepared head table c .answer)
       go why (Cause.store b) u =
-          let b′ : byteAt (c .strip) (s .at) ≡ 0 → ⊥ = rw z at b in
-          let f = stopped-fails k s (inl b′) in
-          ⊎-elim (λ t. rw (t .answers) (Ends.store (s .at) f b′ (rw z at (t .quiet)))) (λ l. rw (l .answers) (Ends.undo (s .at) f (rw z at (l .noisy)))) u
+          ⊎-elim (λ t. rw (t .answers) (Ends.store (s .at) f (rw z at b) (rw z at (t .quiet)))) (λ l. rw (l .answers) (Ends.undo (s .at) f (rw z at (l .noisy)))) u
       go why (Cause.full b e) u =
-          let n = used-start k in
-          let f = stopped-fails k s (inr (omega arith)) in
           ⊎-elim (λ t. rw (t .answers) (Ends.full (s .at) f (rw z at b) (rw z at (t .quiet)))) (λ l. rw (l .answers) (Ends.undo (s .at) f (rw z at (l .noisy)))) u
 
   -- the bytes of all insertions, and then those of source removals
-  ready-quiet :
+  pub ready-quiet :
       (n : ℕ) → IsReady head table c → Quiet (c .strip) (length (going c)) (length (going c) + n) →
       Quiet (c .strip) 0 (length (going c) + n)
   ready-quiet n r q =
@@ -310,7 +315,7 @@ module _ (head : Head) (table : List ℕ) (c : Call) where
       sorted = well-formed-parts head table (publish-clear head table c (k .passes) .formed) .sorted
 
 -- the answers of a count
-count-answered :
+pub count-answered :
     (head : Head) (table : List ℕ) (binding key : ℕ) → CountAnswers head table binding key (countOf head table binding key)
 unfolding countOf
 count-answered head table binding key = go (countChecks head table binding) refl

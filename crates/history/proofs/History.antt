@@ -28,7 +28,7 @@ use Rattle.laws.proofs.Sets.{present-said}
 use Rattle.laws.proofs.Rows.{bucket-among, bucket-rising}
 use Rattle.laws.proofs.Calls.{publish-as-before, publish-well-formed, publish-stable, publish-poisoned, count-poisoned}
 use Rattle.history.specs.Acceptance.{Acceptable}
-use Rattle.history.specs.History.{Index, published, countedIn, postingsIn, indexOf, after, outcomes, unbroken, accepted, acceptedOutcomes, said, saidOf, ownCount, holding, quiet, Holds, Alike, Right, Withheld, RightOrWithheld}
+use Rattle.history.specs.History.{Index, published, countedIn, postingsIn, indexOf, after, outcomes, unbroken, accepted, acceptedOutcomes, said, saidOf, ownCount, holding, quiet, Again, AllAgain, none, next, Holds, Alike, Right, Withheld, RightOrWithheld}
 use Rattle.history.proofs.Acceptance.{accepted-exactly, acceptable-outcome}
 
 -- well formed and unpoisoned: what every call but 12 and 13 leaves
@@ -144,59 +144,99 @@ said-set (c ∷ cs) ps p =
     said-set cs (takenAway (sources (changesOf c)) (added (destinations (changesOf c)) ps)) p
     ∙ ap (saidOf cs p) (present-said p (destinations (changesOf c)) (sources (changesOf c)) ps)
 
--- with an empty strip an accepted call is accepted just so
-strip-passes : (c : Call) → stripCheck (quiet c) ≡ Verdict.Passes
-unfolding stripCheck properStrip properBytes
-strip-passes c = refl
+-- a call with another strip
+abbrev withStrip : Call → List ℕ → Call
+withStrip c strip = record { changeList = c .changeList; guardList = c .guardList; strip = strip; recordList = c .recordList }
 
-quiet-passes :
-    (head : Head) (table : List ℕ) (c : Call) → publishChecks head table c ≡ Verdict.Passes →
-    publishChecks head table (quiet c) ≡ Verdict.Passes
+-- with any proper strip of which every byte that is read is 0 an accepted call is accepted just so
+strip-passes : (c : Call) (strip : List ℕ) → properStrip strip ≡ true → stripCheck (withStrip c strip) ≡ Verdict.Passes
+unfolding stripCheck
+strip-passes c strip h = rw h
+
+strip-checks :
+    (head : Head) (table : List ℕ) (c : Call) (strip : List ℕ) → properStrip strip ≡ true → publishChecks head table c ≡ Verdict.Passes →
+    publishChecks head table (withStrip c strip) ≡ Verdict.Passes
 unfolding publishChecks listCheck roomCheck guardCheck twiceCheck presentCheck overlapCheck
-quiet-passes head table c h1 =
+strip-checks head table c strip p h1 =
     let h2 = rest-passes _ _ h1 in
     let h3 = rest-passes _ _ h2 in
     let h4 = rest-passes _ _ h3 in
     let h5 = rest-passes _ _ h4 in
     cons-passes _ _ (first-passes _ _ h1)
-    (cons-passes _ _ (first-passes _ _ h2) (cons-passes _ _ (first-passes _ _ h3) (cons-passes _ _ (strip-passes c) h5)))
+    (cons-passes _ _ (first-passes _ _ h2) (cons-passes _ _ (first-passes _ _ h3) (cons-passes _ _ (strip-passes c strip p) h5)))
 
-quiet-acceptable : (head : Head) (table : List ℕ) (c : Call) → Acceptable head table c → Acceptable head table (quiet c)
-quiet-acceptable head table c a =
-    record { passes = quiet-passes head table c (a .passes); room = a .room; quiet = λ i h k. refl }
+again-is : (c d : Call) → Again c d → d ≡ withStrip c (d .strip)
+again-is c d a i = record { changeList = a .changeList i; guardList = a .guardList i; strip = d .strip; recordList = a .recordList i }
 
-pub quiet-same : (x : Index) (c : Call) → Acceptable (x .head) (x .table) c → published x (quiet c) ≡ published x c
-quiet-same x c a =
-    acceptable-outcome (x .head) (x .table) (quiet c) (quiet-acceptable (x .head) (x .table) c a)
-    ∙ sym (acceptable-outcome (x .head) (x .table) c a)
+again-acceptable :
+    (head : Head) (table : List ℕ) (c d : Call) → Again c d → Acceptable head table c → Acceptable head table (withStrip c (d .strip))
+again-acceptable head table c d a k =
+    record { passes = strip-checks head table c (d .strip) (a .proper) (k .passes); room = k .room; quiet = a .quiet }
 
-pub replay-after : (x : Index) (cs : List Call) → unbroken x cs ≡ true → after x (map quiet (accepted x cs)) ≡ after x cs
+pub again-same : (x : Index) (c d : Call) → Again c d → Acceptable (x .head) (x .table) c → published x d ≡ published x c
+again-same x c d a k =
+    ap (published x) (again-is c d a)
+    ∙ (acceptable-outcome (x .head) (x .table) (withStrip c (d .strip)) (again-acceptable (x .head) (x .table) c d a k)
+    ∙ sym (acceptable-outcome (x .head) (x .table) c k))
+
+-- the empty strip is one of these
+quiet-again : (c : Call) → Again c (quiet c)
+unfolding properStrip properBytes
+quiet-again c = record { changeList = refl; guardList = refl; recordList = refl; proper = refl; quiet = λ i h k. refl }
+
+all-quiet : (cs : List Call) → AllAgain cs (map quiet cs)
+all-quiet [] = none
+all-quiet (c ∷ cs) = next (quiet-again c) (all-quiet cs)
+
+pub again-after :
+    (x : Index) (cs ds : List Call) → unbroken x cs ≡ true → AllAgain (accepted x cs) ds → after x ds ≡ after x cs
 unfolding after accepted
-replay-after x [] h = refl
-replay-after x (c ∷ cs) h = go (step x c) (replay-after (indexOf (published x c)) cs (unbroken-rest x c cs h))
+again-after x [] ds h r = ends ds r
   where
-    go :
-        Step x c →
-        after (indexOf (published x c)) (map quiet (accepted (indexOf (published x c)) cs)) ≡ after (indexOf (published x c)) cs →
-        after x (map quiet (cond (isAccepted (published x c .answer)) (c ∷ accepted (indexOf (published x c)) cs) (accepted (indexOf (published x c)) cs))) ≡ after (indexOf (published x c)) cs
-    go (stays e n p) ih = rw n (ap (λ (y : Index). after y (map quiet (accepted (indexOf (published x c)) cs))) (sym e) ∙ ih)
-    go (takes a n p) ih =
-        rw n (ap (λ (o : Outcome). after (indexOf o) (map quiet (accepted (indexOf (published x c)) cs))) (quiet-same x c a) ∙ ih)
-    go (breaks n p) ih = absurd (clash (poisons (published x c .answer)) p (unbroken-first x c cs h))
+    ends : (ds : List Call) → AllAgain [] ds → after x ds ≡ x
+    ends [] none = refl
+again-after x (c ∷ cs) ds h r = go (step x c) (λ es. again-after (indexOf (published x c)) cs es (unbroken-rest x c cs h)) r
+  where
+    Again-on : Type 0
+    Again-on = (es : List Call) → AllAgain (accepted (indexOf (published x c)) cs) es → after (indexOf (published x c)) es ≡ after (indexOf (published x c)) cs
 
-pub replay-outcomes :
-    (x : Index) (cs : List Call) → unbroken x cs ≡ true → outcomes x (map quiet (accepted x cs)) ≡ acceptedOutcomes x cs
-unfolding outcomes accepted acceptedOutcomes
-replay-outcomes x [] h = refl
-replay-outcomes x (c ∷ cs) h = go (step x c) (replay-outcomes (indexOf (published x c)) cs (unbroken-rest x c cs h))
-  where
+    taken :
+        Acceptable (x .head) (x .table) c → Again-on → (es : List Call) → AllAgain (c ∷ accepted (indexOf (published x c)) cs) es →
+        after x es ≡ after (indexOf (published x c)) cs
+    taken k ih (d ∷ es) (next a q) = ap (λ (o : Outcome). after (indexOf o) es) (again-same x c d a k) ∙ ih es q
+
     go :
-        Step x c →
-        outcomes (indexOf (published x c)) (map quiet (accepted (indexOf (published x c)) cs)) ≡ acceptedOutcomes (indexOf (published x c)) cs →
-        outcomes x (map quiet (cond (isAccepted (published x c .answer)) (c ∷ accepted (indexOf (published x c)) cs) (accepted (indexOf (published x c)) cs))) ≡ cond (isAccepted (published x c .answer)) (published x c ∷ acceptedOutcomes (indexOf (published x c)) cs) (acceptedOutcomes (indexOf (published x c)) cs)
-    go (stays e n p) ih = rw n (ap (λ (y : Index). outcomes y (map quiet (accepted (indexOf (published x c)) cs))) (sym e) ∙ ih)
-    go (takes a n p) ih = rw (n, quiet-same x c a) (ap (λ l. published x c ∷ l) ih)
-    go (breaks n p) ih = absurd (clash (poisons (published x c .answer)) p (unbroken-first x c cs h))
+        Step x c → Again-on →
+        AllAgain (cond (isAccepted (published x c .answer)) (c ∷ accepted (indexOf (published x c)) cs) (accepted (indexOf (published x c)) cs)) ds →
+        after x ds ≡ after (indexOf (published x c)) cs
+    go (stays e n p) ih q = ap (λ (y : Index). after y ds) (sym e) ∙ ih ds (rw n at q)
+    go (takes a n p) ih q = taken a ih ds (rw n at q)
+    go (breaks n p) ih q = absurd (clash (poisons (published x c .answer)) p (unbroken-first x c cs h))
+
+pub again-outcomes :
+    (x : Index) (cs ds : List Call) → unbroken x cs ≡ true → AllAgain (accepted x cs) ds → outcomes x ds ≡ acceptedOutcomes x cs
+unfolding outcomes accepted acceptedOutcomes
+again-outcomes x [] ds h r = ends ds r
+  where
+    ends : (ds : List Call) → AllAgain [] ds → outcomes x ds ≡ []
+    ends [] none = refl
+again-outcomes x (c ∷ cs) ds h r = go (step x c) (λ es. again-outcomes (indexOf (published x c)) cs es (unbroken-rest x c cs h)) r
+  where
+    Again-on : Type 0
+    Again-on = (es : List Call) → AllAgain (accepted (indexOf (published x c)) cs) es → outcomes (indexOf (published x c)) es ≡ acceptedOutcomes (indexOf (published x c)) cs
+
+    taken :
+        Acceptable (x .head) (x .table) c → Again-on → (es : List Call) → AllAgain (c ∷ accepted (indexOf (published x c)) cs) es →
+        outcomes x es ≡ published x c ∷ acceptedOutcomes (indexOf (published x c)) cs
+    taken k ih (d ∷ es) (next a q) = rw (again-same x c d a k) (ap (λ l. published x c ∷ l) (ih es q))
+
+    go :
+        Step x c → Again-on →
+        AllAgain (cond (isAccepted (published x c .answer)) (c ∷ accepted (indexOf (published x c)) cs) (accepted (indexOf (published x c)) cs)) ds →
+        outcomes x ds ≡ cond (isAccepted (published x c .answer)) (published x c ∷ acceptedOutcomes (indexOf (published x c)) cs) (acceptedOutcomes (indexOf (published x c)) cs)
+    go (stays e n p) ih q = rw n (ap (λ (y : Index). outcomes y ds) (sym e) ∙ ih ds (rw n at q))
+    go (takes a n p) ih q = rw n (taken a ih ds (rw n at q))
+    go (breaks n p) ih q = absurd (clash (poisons (published x c .answer)) p (unbroken-first x c cs h))
 
 -- a count on a live index is its own number
 pub live-count :
@@ -324,6 +364,17 @@ module _ (x : Index) (start : List Posting) (e : Holds x start) where
       let l = live-after x cs (holds-live x start e) h in
       rw (held-now cs h) at (well-formed-parts (after x cs .head) (after x cs .table) (l .formed) .sorted)
 
+  -- made again on an index of equal size and binding count that holds the same start
+  again-now :
+      (cs : List Call) → unbroken x cs ≡ true → (y : Index) (ds : List Call) → Holds y start → Alike x y → AllAgain (accepted x cs) ds →
+      after y ds ≡ after x cs
+  again-now cs h y ds ey a r = rw (holds-one x y start e ey a) (again-after x cs ds h r)
+
+  again-records :
+      (cs : List Call) → unbroken x cs ≡ true → (y : Index) (ds : List Call) → Holds y start → Alike x y → AllAgain (accepted x cs) ds →
+      outcomes y ds ≡ acceptedOutcomes x cs
+  again-records cs h y ds ey a r = rw (holds-one x y start e ey a) (again-outcomes x cs ds h r)
+
   right-until : (cs : List Call) → unbroken x cs ≡ true → Right x start cs
   right-until cs h =
       record {
@@ -340,8 +391,10 @@ module _ (x : Index) (start : List Posting) (e : Holds x start) where
                   bucket-among binding key row (said (accepted x cs) start)
                   ∙ said-set (accepted x cs) start (record { binding = binding; key = key; row = row });
             };
-        replay = λ y ey a. rw (holds-one x y start e ey a) (replay-after x cs h);
-        records = λ y ey a. rw (holds-one x y start e ey a) (replay-outcomes x cs h);
+        again = again-now cs h;
+        againRecords = again-records cs h;
+        replay = λ y ey a. again-now cs h y (map quiet (accepted x cs)) ey a (all-quiet (accepted x cs));
+        records = λ y ey a. again-records cs h y (map quiet (accepted x cs)) ey a (all-quiet (accepted x cs));
       }
 
   withheld-after : (cs : List Call) → unbroken x cs ≡ false → Withheld x start cs

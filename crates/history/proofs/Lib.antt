@@ -3,3 +3,6 @@ pub mod Acceptance
 pub mod History
 pub mod Upstream
 pub mod Restores
+pub mod Leftovers
+pub mod Failures
+pub mod Numbers

@@ -1,11 +1,12 @@
 -- Right or withheld: what can be said of a table that only publish calls write. All words here are over the rules of one
 -- publish and one count; there is no second model.
-use Prim.Native.Nat.{ℕ}
+use Prim.Native.Nat.{ℕ, _+_}
 use mathlib.Core.Path.{_≡_}
 use mathlib.Core.List.{List, [], _∷_, _++_, map}
 use mathlib.Core.Bool.{Bool, true, false, cond, not, _&&_, _||_}
 use lib.ListN.{length}
 use lib.Dec.{ltb}
+use Rattle.strips.specs.Strips.{properStrip}
 use Rattle.rules.specs.declared.Posting.{Posting}
 use Rattle.rules.specs.declared.Head.{Head}
 use Rattle.rules.specs.declared.Answer.{Answer}
@@ -15,7 +16,7 @@ use Rattle.rules.specs.Orders.{destinations, sources, postingsOf, Call, changes
 use Rattle.rules.specs.Answers.{isAccepted, poisons}
 use Rattle.rules.specs.Checks.{among}
 use Rattle.rules.specs.Calls.{Outcome, asBefore, headWith, publishOf, countOf}
-use Rattle.laws.specs.Words.{added, takenAway, rising}
+use Rattle.laws.specs.Words.{added, takenAway, rising, Quiet}
 
 -- a table with its head
 pub record Index : Type 0 where
@@ -92,6 +93,20 @@ holding x ps = record { head = headWith (x .head) (length ps) 0; table = laidOut
 abbrev pub quiet : Call → Call
 quiet c = record { changeList = c .changeList; guardList = c .guardList; strip = []; recordList = c .recordList }
 
+-- a call made again with no storage failure: the same changes, guards and record list, and any proper strip of which every byte that
+-- is read is 0
+pub record Again (c d : Call) : Type 0 where
+  pub changeList : d .changeList ≡ c .changeList
+  pub guardList : d .guardList ≡ c .guardList
+  pub recordList : d .recordList ≡ c .recordList
+  pub proper : properStrip (d .strip) ≡ true
+  pub quiet : Quiet (d .strip) 0 (length (destinations (changesOf c)) + length (sources (changesOf c)))
+
+-- calls made again, one by one
+pub data AllAgain : List Call → List Call → Type 0 where
+  none : AllAgain [] []
+  next : {c d : Call} {cs ds : List Call} → Again c d → AllAgain cs ds → AllAgain (c ∷ cs) (d ∷ ds)
+
 -- well formed, unpoisoned, and holding just these postings; with none, it is empty
 pub record Holds (x : Index) (start : List Posting) : Type 0 where
   pub formed : wellFormed (x .head) (x .table) ≡ true
@@ -123,8 +138,12 @@ pub record Right (x : Index) (start : List Posting) (cs : List Call) : Type 0 wh
   pub counts : (binding key : ℕ) → countedIn (after x cs) binding key ≡ ownCount x (said (accepted x cs) start) binding key
   -- and that is the number of rows that the accepted calls say
   pub rows : (binding key : ℕ) → CountSaid start (accepted x cs) binding key (counted binding key (said (accepted x cs) start))
-  -- the accepted calls replayed with empty strips, on an index of equal size and binding count that holds the same start, give
+  -- the accepted calls made again with no storage failure, on an index of equal size and binding count that holds the same start, give
   -- the same table and head, and the same answers and records on the way, number for number
+  pub again : (y : Index) (ds : List Call) → Holds y start → Alike x y → AllAgain (accepted x cs) ds → after y ds ≡ after x cs
+  pub againRecords :
+      (y : Index) (ds : List Call) → Holds y start → Alike x y → AllAgain (accepted x cs) ds → outcomes y ds ≡ acceptedOutcomes x cs
+  -- so do they with empty strips
   pub replay : (y : Index) → Holds y start → Alike x y → after y (map quiet (accepted x cs)) ≡ after x cs
   pub records : (y : Index) → Holds y start → Alike x y → outcomes y (map quiet (accepted x cs)) ≡ acceptedOutcomes x cs
 

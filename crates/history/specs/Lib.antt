@@ -2,4 +2,6 @@
 pub mod Acceptance
 pub mod History
 pub mod Upstream
+pub mod Failures
+pub mod Numbers
 pub mod Worked

@@ -27,7 +27,7 @@ use Rattle.lane_rules.specs.Rounds.{round, rounds, detaching}
 use Rattle.lane_rules.specs.Calls.{detachChecks, refreshedChecks, unlessRefused, passed, cachedOf, refreshedOf, detachOf}
 use Rattle.lane_laws.specs.Clauses.{AllBelow, Says, isRefusal, Entry}
 use Rattle.lane_laws.specs.Ends.{cachedWork, refreshedWork, detachWork, Clean, Fault, Heard, RefusedWith}
-use Rattle.lane_laws.specs.Ends.{PassEnds, said-yes, said-no, said-error, Ends, yes, error, spent, Retired}
+use Rattle.lane_laws.specs.Ends.{PassEnds, said-yes, said-no, said-error, Ends, yes, error, spent, MetNoError, Retired}
 use Rattle.lane_laws.proofs.Cases.{by-said, other-number}
 use Rattle.lane_laws.proofs.Reading.{begun, try-reads, round-reads}
 use Rattle.lane_laws.proofs.Entry.{detach-entry, detach-passes, refreshed-entry, refreshed-passes}
@@ -307,6 +307,12 @@ module _ {strip : List ℕ} {lent from attached read : ℕ} where
   fault-of (error m k f) n o = f
   fault-of (spent c) n o = absurd (other-number o (omega arith))
 
+  -- what is not 24 comes of none
+  clean-of : {a : Answer} → Ends strip lent from attached read a → MetNoError a → Clean strip from read
+  clean-of (yes m k e c) f = c
+  clean-of (error m k g) f = absurd (f m refl)
+  clean-of (spent c) f = c
+
   -- an error gives 24
   offset-of :
       {a : Answer} → Ends strip lent from attached read a → (i : ℕ) → from ≤ i → i < read → 1 < byteAt strip i →
@@ -356,6 +362,11 @@ module _ (v : View) (strip : List ℕ) (lent : ℕ) (passes : detachChecks v str
   -- 24: the last byte read is an error, and no other
   pub offset-fault : (n : ℕ) → detachOf v strip lent .answer ≡ Answer.Offset n → Fault strip 0 (detachWork v strip lent .read)
   offset-fault n e = fault-of detach-ends n e
+
+  -- any other answer: no byte read is an error
+  pub else-clean :
+      MetNoError (detachOf v strip lent .answer) → (i : ℕ) → i < detachWork v strip lent .read → byteAt strip i ≤ 1
+  else-clean f i k = clean-of detach-ends f i (omega arith) k
 
   -- 24 exactly where an error byte was read
   pub offset-exactly :

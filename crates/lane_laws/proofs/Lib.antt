@@ -7,6 +7,10 @@ pub mod Frames
 pub mod Sweep
 pub mod Exactly
 pub mod Yes
+pub mod No
+pub mod Numbers
 pub mod Live
+pub mod Places
 pub mod Slow
+pub mod Windows
 pub mod Upstream

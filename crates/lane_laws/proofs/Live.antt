@@ -20,13 +20,14 @@ use Rattle.lane_rules.specs.Passes.{cachedPass}
 use Rattle.lane_rules.specs.Rounds.{round, rounds, detaching}
 use Rattle.lane_rules.specs.Calls.{detachChecks, ended, unlessRefused, detachOf}
 use Rattle.lane_laws.specs.Clauses.{AllBelow, isRefusal}
-use Rattle.lane_laws.specs.Ends.{detachWork, Ends, yes, error, spent, NoErrors, MetNoError, HadRounds, Retired, roundsNeeded}
-use Rattle.lane_laws.proofs.Cases.{by-said, by-both, other-number}
+use Rattle.lane_laws.specs.Ends.{detachWork, NoErrors, Clean, Ends, yes, error, spent, MetNoError, HadRounds, Retired}
+use Rattle.lane_laws.specs.Ends.{roundsNeeded}
+use Rattle.lane_laws.proofs.Cases.{by-said, by-both, other-number, refusal-not-accepted}
 use Rattle.lane_laws.proofs.Reading.{round-no-reads}
 use Rattle.lane_laws.proofs.Entry.{detach-passes}
 use Rattle.lane_laws.proofs.Frames.{below-inside, cached-leaves, round-leaves}
 use Rattle.lane_laws.proofs.Sweep.{round-no, last-round}
-use Rattle.lane_laws.proofs.Exactly.{detach-refused, detach-ends, accepted-retired, offset-fault, budget-lent}
+use Rattle.lane_laws.proofs.Exactly.{detach-refused, detach-ends, accepted-retired, offset-fault, else-clean, budget-lent}
 
 -- an answer with another number is not 25
 had-rounds : (a : Answer) → (toldOf a .answer ≡ 25 → ⊥) → HadRounds a
@@ -321,3 +322,44 @@ module _ (v : View) (strip : List ℕ) where
           let same = more-rounds lent (length strip / 2 + 2) (omega arith) h in
           let needed : roundsNeeded v strip ≤ lent = rw (roundsNeeded, same) (told-rounds lent) in
           omega arith
+
+  -- accepted exactly where no check applies, no byte that it reads is an error, and as many rounds are lent as it needs
+  pub detach-accepted-exactly :
+      (lent : ℕ) →
+      (isAccepted (detachOf v strip lent .answer) ≡ true)
+      ↔ ((detachChecks v strip ≡ Verdict.Passes) × Clean strip 0 (detachWork v strip lent .read) × (roundsNeeded v strip ≤ lent))
+  detach-accepted-exactly lent = (
+    λ t.
+        let passes = unrefused (detachChecks v strip) refl t in
+        (passes, clean passes t, enough (leb (roundsNeeded v strip) lent) refl t),
+    λ (h, c, k).
+        must-accept (detach-ends v strip lent h)
+        (λ n e.
+        let f = offset-fault v strip lent h n e in
+        let some = f .some in
+        let high = f .last in
+        let low = c (detachWork v strip lent .read - 1) (omega arith) (omega arith) in
+        omega arith)
+        (λ n e. let few = budget-exactly lent .0 (n, e) in omega arith),
+  )
+    where
+      unrefused :
+          (c : Verdict) → detachChecks v strip ≡ c → isAccepted (detachOf v strip lent .answer) ≡ true →
+          detachChecks v strip ≡ Verdict.Passes
+      unrefused Verdict.Passes h t = h
+      unrefused (Verdict.Refused a) h t =
+          let r = detach-refused v strip lent a h in
+          absurd (clash (isAccepted a) (rw (r .same) at t) (refusal-not-accepted a (r .number)))
+
+      clean :
+          detachChecks v strip ≡ Verdict.Passes → isAccepted (detachOf v strip lent .answer) ≡ true →
+          Clean strip 0 (detachWork v strip lent .read)
+      clean h t i low k = else-clean v strip lent h (λ n e. clash false (rw e at t) refl) i k
+
+      enough :
+          (b : Bool) → leb (roundsNeeded v strip) lent ≡ b → isAccepted (detachOf v strip lent .answer) ≡ true →
+          roundsNeeded v strip ≤ lent
+      enough true e t = leb-true (roundsNeeded v strip) lent e
+      enough false e t =
+          let few = budget-exactly lent .1 (leb-false (roundsNeeded v strip) lent e) in
+          absurd (accepted-had-rounds (detachOf v strip lent .answer) t (few .0) (few .1))

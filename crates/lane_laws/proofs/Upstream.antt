@@ -1,12 +1,8 @@
 -- Upstream's clauses hold of every step, pass and detach.
 use Prim.Native.Nat.{ℕ}
-use native.Mathlib.Omega.{arith}
 use mathlib.Core.Path.{_≡_, refl, sym, ap, _∙_}
 use mathlib.Core.List.{List}
 use mathlib.Core.Bool.{true, false}
-use mathlib.Mathlib.Data.Bool.Basic.{and-elim-left}
-use lib.Dec.{leb}
-use borrow.Author.Tests.{ne-eqb, leb-true}
 use Rattle.booleans.proofs.Tests.{clash}
 use Rattle.masks.specs.Masks.{Inside}
 use Rattle.masks.proofs.Lanes.{no-lane, inside-same}
@@ -15,13 +11,13 @@ use Rattle.lane_rules.specs.declared.Said.{Said}
 use Rattle.lane_rules.specs.declared.Pass.{Pass}
 use Rattle.lane_rules.specs.declared.Ended.{Ended}
 use Rattle.lane_rules.specs.declared.Answer.{Answer}
-use Rattle.lane_rules.specs.Answers.{toldOf, isAccepted}
+use Rattle.lane_rules.specs.Answers.{isAccepted}
 use Rattle.lane_rules.specs.Passes.{bySaid, cachedPass, tryLane, refreshedFrom}
 use Rattle.lane_rules.specs.Calls.{viewWith, passed, ended, cachedOf, refreshedOf, detachOf}
 use Rattle.lane_laws.specs.Clauses.{NoneBelow, Valid, Frame, isRefusal, WindowClauses, CompareClauses, RefreshClauses}
 use Rattle.lane_laws.specs.Clauses.{RetireClauses, PassClauses, RefreshedClauses, DetachClauses}
 use Rattle.lane_laws.specs.Ends.{cachedWork, refreshedWork, detachWork, Ends}
-use Rattle.lane_laws.proofs.Cases.{no-not-yes, error-not-yes, yes-told}
+use Rattle.lane_laws.proofs.Cases.{no-not-yes, error-not-yes, refusal-not-accepted, yes-told}
 use Rattle.lane_laws.proofs.Reading.{begun}
 use Rattle.lane_laws.proofs.Entry.{detach-cases, refreshed-cases}
 use Rattle.lane_laws.proofs.Frames.{below-inside, compare-leaves, refresh-leaves, Clears, cached-leaves, refreshed-leaves}
@@ -95,13 +91,6 @@ told-unrefused : (s : Said) → isRefusal (bySaid s (Answer.Accepted 1) (Answer.
 told-unrefused Said.Yes = refl
 told-unrefused Said.No = refl
 told-unrefused Said.Error = refl
-
--- a refusal is not accepted
-refusal-not-accepted : (a : Answer) → isRefusal a ≡ true → isAccepted a ≡ false
-refusal-not-accepted a h =
-    let number = toldOf a .answer in
-    let low = leb-true 20 number (and-elim-left (leb 20 number) (leb number 23) h) in
-    ne-eqb number 0 (λ e. omega arith)
 
 module _ (v : View) where
   -- a pass that a check refused

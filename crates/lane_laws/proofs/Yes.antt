@@ -28,7 +28,7 @@ use Rattle.lane_laws.proofs.Frames.{each-next, compare-leaves, refreshe
 use Rattle.lane_laws.proofs.Sweep.{nothing-tried}
 
 -- a yes of a compare came at byte 0 on an attached lane
-said-yes :
+pub said-yes :
     (byte lane attached : ℕ) {s : Said} → Says byte lane attached s → s ≡ Said.Yes →
     (byte ≡ 0) × (laneIn attached lane ≡ true)
 said-yes byte lane attached (Says.clears b i) e = (b, i)

@@ -1,9 +1,10 @@
 -- The words in which the laws say how a pass and a detach end.
-use Prim.Native.Nat.{ℕ, _+_, _-_, _/_, _≤_, _<_}
+use Prim.Native.Nat.{ℕ, zero, suc, _+_, _-_, _/_, _≤_, _<_}
 use mathlib.Core.Path.{_≡_}
-use mathlib.Core.List.{List}
-use mathlib.Core.Bool.{true}
-use lib.ListN.{length}
+use mathlib.Core.List.{List, [], _∷_}
+use mathlib.Core.Bool.{true, false, cond}
+use mathlib.Core.Logic.{_⊎_}
+use lib.ListN.{length, getD}
 use Rattle.strips.specs.Strips.{byteAt}
 use Rattle.masks.specs.Masks.{laneIn}
 use Rattle.lane_rules.specs.declared.View.{View}
@@ -62,6 +63,43 @@ pub record AllCleared (strip : List ℕ) (window attached read height : ℕ) : T
   pub isAttached : (lane : ℕ) → lane < height → laneIn attached lane ≡ true
   pub zeros : (i : ℕ) → read ≤ i → i < read + height → byteAt strip i ≡ 0
 
+-- the place of the byte for a lane, where each lane above it has taken one
+abbrev pub byteFor : ℕ → ℕ → ℕ → ℕ
+byteFor read height lane = read + (height - suc lane)
+
+-- a cached pass comes down to a lane: each lane above it is in the window and attached, and each byte for those is 0
+pub record ComesTo (strip : List ℕ) (window attached read height lane : ℕ) : Type 0 where
+  pub under : lane < height
+  pub inWindow : (above : ℕ) → lane < above → above < height → laneIn window above ≡ true
+  pub isAttached : (above : ℕ) → lane < above → above < height → laneIn attached above ≡ true
+  pub zeros : (i : ℕ) → read ≤ i → i < byteFor read height lane → byteAt strip i ≡ 0
+
+-- and there it says no: the lane is outside the window, or its byte is 1, or its byte is 0 and it is not attached
+abbrev pub NoAt : ℕ → ℕ → ℕ → ℕ → Type 0
+NoAt window attached lane byte =
+    (laneIn window lane ≡ false) ⊎ ((byte ≡ 1) ⊎ ((byte ≡ 0) × (laneIn attached lane ≡ false)))
+
+-- or there it meets an error: the lane is in the window, and its byte is above 1
+abbrev pub ErrorAt : ℕ → ℕ → ℕ → Type 0
+ErrorAt window lane byte = (laneIn window lane ≡ true) × (1 < byte)
+
+-- a lane at which a cached pass says no
+abbrev pub SomeNo : List ℕ → ℕ → ℕ → ℕ → ℕ → Type 0
+SomeNo strip window attached read height =
+    (lane : ℕ) × ComesTo strip window attached read height lane
+    × NoAt window attached lane (byteAt strip (byteFor read height lane))
+
+-- a lane at which it meets an error
+abbrev pub SomeError : List ℕ → ℕ → ℕ → ℕ → ℕ → Type 0
+SomeError strip window attached read height =
+    (lane : ℕ) × ComesTo strip window attached read height lane
+    × ErrorAt window lane (byteAt strip (byteFor read height lane))
+
+-- how many lanes below the height are in the window: so many bytes has a refreshed pass to read
+unfoldable pub lanesTried : ℕ → ℕ → ℕ
+lanesTried window zero = 0
+lanesTried window (suc lane) = cond (laneIn window lane) 1 0 + lanesTried window lane
+
 -- a pass ends with a yes and no lane attached, with a no, or at an error byte
 pub data PassEnds (strip : List ℕ) (attached read : ℕ) : Answer → Type 0 where
   said-yes : attached ≡ 0 → Clean strip 0 read → PassEnds strip attached read (Answer.Accepted 1)
@@ -91,3 +129,19 @@ pub record Retired (o : Done) : Type 0 where
 -- the rounds that a detach makes where enough are lent
 abbrev pub roundsNeeded : View → List ℕ → ℕ
 roundsNeeded v strip = toldOf (detachOf v strip (length strip / 2 + 2) .answer) .value
+
+-- one of these numbers
+abbrev pub OneOf : List ℕ → ℕ → Type 0
+OneOf numbers n = (i : ℕ) × (i < length numbers) × (getD numbers i 0 ≡ n)
+
+-- the numbers that a cached pass answers with
+abbrev pub cachedNumbers : List ℕ
+cachedNumbers = 0 ∷ 20 ∷ 21 ∷ 23 ∷ 24 ∷ []
+
+-- and a refreshed pass
+abbrev pub refreshedNumbers : List ℕ
+refreshedNumbers = 0 ∷ 20 ∷ 21 ∷ 22 ∷ 23 ∷ 24 ∷ []
+
+-- and a detach
+abbrev pub detachNumbers : List ℕ
+detachNumbers = 0 ∷ 20 ∷ 21 ∷ 23 ∷ 24 ∷ 25 ∷ []

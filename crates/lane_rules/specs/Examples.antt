@@ -40,8 +40,8 @@ abbrev pub view : ℕ → ℕ → ℕ → View
 view height attached window = record { height = height; guarded = 1; retired = 0; attached = attached; window = window }
 
 -- all 32 lanes
-abbrev pub every : ℕ
-every = 2 ^ 32 - 1
+abbrev pub allLanes : ℕ
+allLanes = 2 ^ 32 - 1
 
 -- height 3, attached 7, empty strip: a window of 6 needs two rounds, of which the first clears lane 0 and says no; one round
 -- gives 25 with attached 0; a window of 7 needs none
@@ -146,30 +146,33 @@ pub high-window :
 unfolding computing
 high-window = refl
 
--- height 32 is accepted: all lanes, the top lane alone, and one round for the lanes outside the window
+-- height 32 is accepted: all lanes in no round, the top lane alone, two rounds for the lanes outside the window, and an error
+-- behind a refresh that cleared lane 0; heights 33 and 0 are refused
 pub full-height :
     Hold
-    (cachedOf (view 32 every every) [] gives row 0 1 0 every 0
+    (cachedOf (view 32 allLanes allLanes) [] gives row 0 1 0 allLanes 0
     ∷ refreshedOf (view 32 (2 ^ 31) (2 ^ 31)) [] gives row 0 0 0 (2 ^ 31) 0
-    ∷ detachOf (view 32 every every) [] 0 gives row 0 0 0 every 1
-    ∷ detachOf (view 32 every (2 ^ 31)) [] 2 gives row 0 2 0 0 1
-    ∷ detachOf (view 32 every 0) (1 ∷ 2 ∷ []) 2 gives row 24 1 (every - 1) (every - 1) 0
+    ∷ detachOf (view 32 allLanes allLanes) [] 0 gives row 0 0 0 allLanes 1
+    ∷ detachOf (view 32 allLanes (2 ^ 31)) [] 2 gives row 0 2 0 0 1
+    ∷ detachOf (view 32 allLanes 0) (1 ∷ 2 ∷ []) 2 gives row 24 1 (allLanes - 1) (allLanes - 1) 0
     ∷ cachedOf (view 33 0 0) [] gives row 20 0 0 0 0
     ∷ cachedOf (view 0 0 0) [] gives row 20 0 0 0 0
+    ∷ detachOf (view 33 0 0) [] 9 gives row 20 0 0 0 0
     ∷ [])
 unfolding computing
 full-height = refl
 
--- a view that is not guarded, one that is retired, a flag that is neither 0 nor 1, and a lane at the height
-abbrev pub unguarded : ℕ → ℕ → View
-unguarded guarded retired = record { height = 3; guarded = guarded; retired = retired; attached = 7; window = 7 }
+-- a view with these flags
+abbrev pub flagged : ℕ → ℕ → View
+flagged guarded retired = record { height = 3; guarded = guarded; retired = retired; attached = 7; window = 7 }
 
+-- not guarded, retired, a flag that is neither 0 nor 1, and a lane at the height
 pub bad-views :
     Hold
-    (cachedOf (unguarded 0 0) [] gives row 21 0 7 7 0
-    ∷ cachedOf (unguarded 1 1) [] gives row 21 0 7 7 1
-    ∷ cachedOf (unguarded 2 0) [] gives row 21 0 7 7 0
-    ∷ cachedOf (unguarded 1 2) [] gives row 21 0 7 7 2
+    (cachedOf (flagged 0 0) [] gives row 21 0 7 7 0
+    ∷ cachedOf (flagged 1 1) [] gives row 21 0 7 7 1
+    ∷ cachedOf (flagged 2 0) [] gives row 21 0 7 7 0
+    ∷ cachedOf (flagged 1 2) [] gives row 21 0 7 7 2
     ∷ detachOf (view 2 4 7) [] 9 gives row 21 0 4 7 0
     ∷ detachOf (view 31 (2 ^ 31) 0) [] 9 gives row 21 0 (2 ^ 31) 0 0
     ∷ [])

@@ -16,3 +16,4 @@ pub mod Sets
 pub mod Records
 pub mod Rows
 pub mod Names
+pub mod Least

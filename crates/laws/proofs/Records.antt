@@ -14,7 +14,7 @@ use Rattle.rules.specs.declared.Key.{Key}
 use Rattle.rules.specs.declared.Change.{Change}
 use Rattle.rules.specs.declared.Verdict.{Verdict}
 use Rattle.rules.specs.Postings.{same, present, inserted}
-use Rattle.rules.specs.Orders.{Numbered, named, destinationOf, destinationsFrom, destinations, numbersOf, postingsOf, noChange, recorded}
+use Rattle.rules.specs.Orders.{Numbered, named, destinationOf, sourceOf, destinationsFrom, sourcesFrom, destinations, sources, numbersOf, postingsOf, noChange, recorded}
 use Rattle.rules.specs.Checks.{isNamed, recordable, among, recordFrom}
 use Rattle.laws.specs.Words.{added, takenAway, rising}
 use Rattle.booleans.proofs.Tests.{neither, or-swap}
@@ -67,20 +67,29 @@ rising-later low high (n ∷ ns) h r =
     let k = leb-true high n (and-elim-left (leb high n) (rising (n + 1) ns) r) in
     and-intro (le-leb low n (omega arith)) (and-elim-right (leb high n) (rising (n + 1) ns) r)
 
+rising-named :
+    (i : ℕ) (c : Change) (k : Key) (others : List Numbered) → rising (i + 1) (numbersOf others) ≡ true →
+    rising i (numbersOf (named i c k others)) ≡ true
+unfolding rising
+rising-named i c Key.Missing others h = rising-later i (i + 1) (numbersOf others) (omega arith) h
+rising-named i c (Key.Named key) others h = and-intro (le-leb i i (omega arith)) h
+
 rising-from : (i : ℕ) (cs : List Change) → rising i (numbersOf (destinationsFrom i cs)) ≡ true
 unfolding destinationsFrom rising
 rising-from i [] = refl
-rising-from i (c ∷ cs) = go (destinationOf c) (rising-from (i + 1) cs)
-  where
-    go :
-        (k : Key) → rising (i + 1) (numbersOf (destinationsFrom (i + 1) cs)) ≡ true →
-        rising i (numbersOf (named i c k (destinationsFrom (i + 1) cs))) ≡ true
-    go Key.Missing ih = rising-later i (i + 1) (numbersOf (destinationsFrom (i + 1) cs)) (omega arith) ih
-    go (Key.Named key) ih =
-        and-intro (le-leb i i (omega arith)) ih
+rising-from i (c ∷ cs) = rising-named i c (destinationOf c) (destinationsFrom (i + 1) cs) (rising-from (i + 1) cs)
 
 pub rising-numbers : (cs : List Change) → rising 0 (numbersOf (destinations cs)) ≡ true
 rising-numbers cs = rising-from 0 cs
+
+-- so do those of the sources
+rising-sources-from : (i : ℕ) (cs : List Change) → rising i (numbersOf (sourcesFrom i cs)) ≡ true
+unfolding sourcesFrom rising
+rising-sources-from i [] = refl
+rising-sources-from i (c ∷ cs) = rising-named i c (sourceOf c) (sourcesFrom (i + 1) cs) (rising-sources-from (i + 1) cs)
+
+pub rising-sources : (cs : List Change) → rising 0 (numbersOf (sources cs)) ≡ true
+rising-sources cs = rising-sources-from 0 cs
 
 -- a number is in it exactly if its change has a destination
 among-below : (j low : ℕ) (ns : List ℕ) → j < low → rising low ns ≡ true → among j ns ≡ false

@@ -227,6 +227,12 @@ same-below a b zero f = mod-one a ∙ sym (mod-one b)
 same-below a b (suc h) f =
     rw (below-next a h, below-next b h, same-digit a b h (f h (omega arith)), same-below a b h (λ l lt. f l (omega arith)))
 
+-- and masks that are equal there have the same lanes there
+pub below-same : (a b h l : ℕ) → lanesBelow a h ≡ lanesBelow b h → l < h → laneIn a l ≡ laneIn b l
+below-same a b h l e lt =
+    let yes = lt-ltb l h lt in
+    rw yes at (sym (lane-below a h l) ∙ ap (λ (m : ℕ). laneIn m l) e ∙ lane-below b h l)
+
 -- masks with the same lanes are equal
 pub same-lanes : (a b h : ℕ) → a < 2 ^ h → b < 2 ^ h → ((l : ℕ) → l < h → laneIn a l ≡ laneIn b l) → a ≡ b
 same-lanes a b h small small′ f = sym (bound-below a h small) ∙ same-below a b h f ∙ bound-below b h small′

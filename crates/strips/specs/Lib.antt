@@ -1,2 +1,3 @@
 -- What a strip is.
 pub mod Strips
+pub mod Examples
