@@ -4,10 +4,11 @@ use mathlib.Core.Path.{_≡_, refl, subst}
 use mathlib.Core.List.{List}
 use mathlib.Core.Bool.{Bool, true, false, _||_}
 use mathlib.Core.Logic.{_↔_, _⊎_, inl, inr, ⊎-elim}
+use mathlib.Mathlib.Data.Bool.Basic.{or-inr}
 use lib.ListN.{length}
 use lib.Dec.{ltb}
 use borrow.Author.Tests.{ltb-true, ltb-false, lt-ltb, le-ltb}
-use Rattle.booleans.proofs.Tests.{by-cases, or-left, or-right, or-cases, or-second, neither}
+use Rattle.booleans.proofs.Tests.{by-cases, or-left, or-right, or-cases, neither}
 use Rattle.bucket_rules.specs.declared.Answer.{Answer}
 use Rattle.bucket_rules.specs.declared.Verdict.{Verdict}
 use Rattle.bucket_rules.specs.Buckets.{distinct, numbersFor}
@@ -22,7 +23,7 @@ or-exactly :
     (a b : Bool) {A B : Type 0} → (a ≡ true) ↔ A → (b ≡ true) ↔ B → ((a || b) ≡ true) ↔ (A ⊎ B)
 or-exactly a b p q = (
   λ h. ⊎-elim (λ e. inl (p .0 e)) (λ e. inr (q .0 e)) (or-cases a b h),
-  λ s. ⊎-elim (λ x. rw (p .1 x)) (λ y. or-second a b (q .1 y)) s,
+  λ s. ⊎-elim (λ x. rw (p .1 x)) (λ y. or-inr a b (q .1 y)) s,
 )
 
 -- it is false exactly where both fail

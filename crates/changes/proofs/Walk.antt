@@ -2,13 +2,13 @@
 use Prim.Native.Nat.{ℕ, zero, suc, _+_, _*_, _/_, _<_, _≤_}
 use native.Mathlib.Numerals.{add-one}
 use native.Mathlib.Omega.{arith}
-use mathlib.Core.Path.{_≡_, refl, _∙_}
+use mathlib.Core.Path.{_≡_, refl, sym, _∙_}
 use mathlib.Core.List.{List, [], _∷_, _++_}
 use lib.ListN.{length, take, drop, getD, drop-of-length-le}
 use lib.Seq.{take-suc, length-take-le, getD-drop}
 use Rattle.rules.specs.declared.Key.{Key}
 use Rattle.rules.specs.declared.Change.{Change}
-use Rattle.rules.specs.Orders.{keyOf, changes, destinationOf, sourceOf, named, destinationsFrom, sourcesFrom, destinations, noChange}
+use Rattle.rules.specs.Orders.{Numbered, keyOf, changes, destinationOf, sourceOf, named, destinationsFrom, sourcesFrom, destinations, noChange}
 use Rattle.laws.proofs.Left.{item-left}
 
 pub changes-length : (l : List ℕ) → length (changes l) ≡ length l / 6
@@ -52,33 +52,33 @@ pub change-read :
 unfolding changeOf
 change-read l i h = let n : i * 6 + 0 ≡ i * 6 = omega arith in change-of l i h ∙ simp (getD-drop, n)
 
-pub change-left : (cs : List Change) (i : ℕ) → i < length cs → drop i cs ≡ getD cs i noChange ∷ drop (i + 1) cs
-change-left cs i h = item-left noChange cs i h
-
-pub drop-all : (cs : List Change) (i : ℕ) → length cs ≤ i → drop i cs ≡ []
-drop-all cs i h = drop-of-length-le cs h
-
 pub destinations-left :
     (cs : List Change) (i : ℕ) → i < length cs →
     destinationsFrom i (drop i cs) ≡ named i (getD cs i noChange) (destinationOf (getD cs i noChange))
     (destinationsFrom (i + 1) (drop (i + 1) cs))
 unfolding destinationsFrom
-destinations-left cs i h = rw (change-left cs i h)
+destinations-left cs i h = rw (item-left noChange cs i h)
 
 pub sources-left :
     (cs : List Change) (i : ℕ) → i < length cs →
     sourcesFrom i (drop i cs) ≡ named i (getD cs i noChange) (sourceOf (getD cs i noChange))
     (sourcesFrom (i + 1) (drop (i + 1) cs))
 unfolding sourcesFrom
-sources-left cs i h = rw (change-left cs i h)
+sources-left cs i h = rw (item-left noChange cs i h)
 
 pub destinations-none : (cs : List Change) (i : ℕ) → length cs ≤ i → destinationsFrom i (drop i cs) ≡ []
 unfolding destinationsFrom
-destinations-none cs i h = rw (drop-all cs i h)
+destinations-none cs i h = rw (drop-of-length-le cs h)
 
 pub sources-none : (cs : List Change) (i : ℕ) → length cs ≤ i → sourcesFrom i (drop i cs) ≡ []
 unfolding sourcesFrom
-sources-none cs i h = rw (drop-all cs i h)
+sources-none cs i h = rw (drop-of-length-le cs h)
+
+-- what a change names, before others and before more
+pub named-append :
+    (n : ℕ) (c : Change) (k : Key) (ds es : List Numbered) → named n c k ds ++ es ≡ named n c k (ds ++ es)
+named-append n c Key.Missing ds es = refl
+named-append n c (Key.Named key) ds es = refl
 
 -- one more change at the end
 pub destinations-last :
@@ -88,14 +88,8 @@ unfolding destinationsFrom
 destinations-last i [] c = let n : i + 0 ≡ i = omega arith in rw n
 destinations-last i (x ∷ cs) c =
     let n : i + 1 + length cs ≡ i + suc (length cs) = omega arith in
-    rw (destinations-last (i + 1) cs c, n) (go (destinationOf x))
-  where
-    go :
-        (key : Key) →
-        named i x key (destinationsFrom (i + 1) cs ++ named (i + suc (length cs)) c (destinationOf c) []) ≡ named i x key
-        (destinationsFrom (i + 1) cs) ++ named (i + suc (length cs)) c (destinationOf c) []
-    go Key.Missing = refl
-    go (Key.Named key) = refl
+    rw (destinations-last (i + 1) cs c, n)
+    (sym (named-append i x (destinationOf x) (destinationsFrom (i + 1) cs) (named (i + suc (length cs)) c (destinationOf c) [])))
 
 -- one more change passed
 pub destinations-behind :

@@ -5,6 +5,7 @@ use native.Mathlib.Omega.{arith}
 use mathlib.Core.Path.{_≡_, refl, _∙_}
 use mathlib.Core.List.{List, [], _∷_}
 use mathlib.Core.Bool.{Bool, true, false, not, _&&_, _||_, and-false}
+use mathlib.Mathlib.Data.Bool.Basic.{and-elim-left}
 use lib.ListN.{length, take, drop, getD, drop-of-length-le}
 use lib.Seq.{take-suc, length-take-le, getD-take}
 use lib.Dec.{eqb, ltb}
@@ -14,7 +15,6 @@ use Rattle.rules.specs.declared.Answer.{Answer}
 use Rattle.rules.specs.declared.Verdict.{Verdict}
 use Rattle.rules.specs.Orders.{destinationOf, noChange}
 use Rattle.rules.specs.Checks.{must, orElse, isNamed, recordable, among, recordFrom}
-use Rattle.booleans.proofs.Tests.{and-left}
 use Rattle.laws.proofs.Names.{among-snoc}
 use Rattle.laws.proofs.Left.{item-left}
 use Rattle.checks.proofs.Few.{Few, none, more, few-length}
@@ -31,7 +31,7 @@ module _ (cs : List Change) (n : ℕ) where
 
   recordable-below : recordable cs n ≡ true → n < length cs
   unfolding recordable
-  recordable-below h = ltb-true n (length cs) (and-left (ltb n (length cs)) (isNamed (destinationOf (getD cs n noChange))) h)
+  recordable-below h = ltb-true n (length cs) (and-elim-left (ltb n (length cs)) (isNamed (destinationOf (getD cs n noChange))) h)
 
 module _ (number : ℕ) (l : List ℕ) (place : ℕ) (k : place ≤ length l) (i : ℕ) where
   -- the numbers before a place, from an earlier one on

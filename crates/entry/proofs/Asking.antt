@@ -6,6 +6,7 @@ use native.Mathlib.Numerals.{add-one}
 use mathlib.Core.Path.{_≡_, refl, sym, ap, _∙_}
 use mathlib.Core.List.{List, [], _∷_}
 use mathlib.Core.Bool.{Bool, true, false, not, cond, _&&_, _||_}
+use mathlib.Mathlib.Data.Bool.Basic.{and-elim-left, and-elim-right, and-intro}
 use lib.Dec.{T, eqb, leb}
 use lib.ListN.{length, drop, getD, drop-of-length-le}
 use lib.Seq.{drop-cons}
@@ -16,7 +17,6 @@ use Rattle.rules.specs.declared.Guard.{Guard}
 use Rattle.rules.specs.Limits.{mostChanges, mostGuards}
 use Rattle.rules.specs.Orders.{changes, guards, properChanges, properGuards, properLists, held, noChange}
 use Rattle.rules.specs.Checks.{heldKey}
-use Rattle.booleans.proofs.Tests.{and-left, and-right, both}
 use Rattle.checks.specs.Guarding.{firstUnheld}
 use Rattle.refusals.specs.Lending.{LookedAt}
 use Rattle.entry.specs.declared.guarding.Wanted.{Wanted}
@@ -168,8 +168,8 @@ looked gs list =
     record {
       pairs = pairs-known gs;
       change = λ p.
-          let few = and-right (properChanges list) (leb (length (changes list)) mostChanges) (and-left (properChanges list && leb (length (changes list)) mostChanges) (properGuards (flat gs)) p) in
-          let paired = pairs-known gs ∙ and-right (properChanges list && leb (length (changes list)) mostChanges) (properGuards (flat gs)) p in
-          rw (both (leb (length (changes list)) mostChanges) (leb (length gs) mostGuards) few paired, flat-guards gs)
+          let few = and-elim-right (properChanges list) (leb (length (changes list)) mostChanges) (and-elim-left (properChanges list && leb (length (changes list)) mostChanges) (properGuards (flat gs)) p) in
+          let paired = pairs-known gs ∙ and-elim-right (properChanges list && leb (length (changes list)) mostChanges) (properGuards (flat gs)) p in
+          rw (and-intro few paired, flat-guards gs)
           (unheld-change gs (changes list) (length (changes list)) 0 (omega arith));
     }

@@ -1,7 +1,7 @@
 -- One outcome for each entry: any two that its promise allows are equal, with the head and every number of the lists lent for
 -- writing. And what is guaranteed of publish is guaranteed of the lent form: its promise is publish's own.
 use Prim.Native.Nat.{ℕ}
-use mathlib.Core.Path.{_≡_, sym, ap, _∙_}
+use mathlib.Core.Path.{_≡_, sym, _∙_}
 use mathlib.Core.List.{List}
 use mathlib.Core.Bool.{Bool}
 use Rattle.rules.specs.declared.Answer.{Answer}
@@ -9,7 +9,7 @@ use Rattle.rules.specs.declared.Guard.{Guard}
 use Rattle.rules.specs.declared.Head.{Head}
 use Rattle.rules.specs.Orders.{lending}
 use Rattle.rules.specs.declared.Done.{Done}
-use Rattle.publish.proofs.Outcomes.{publish-one-outcome}
+use Rattle.publish.proofs.Outcomes.{OneOutcome, publish-one-outcome}
 use Rattle.entry.specs.Asking.{flat}
 use Rattle.entry.specs.Promises.{PoisonPromise, HeldPromise, EntryPromise}
 
@@ -21,23 +21,11 @@ pub held-one-outcome :
     r ≡ s
 held-one-outcome guards binding key r s e f = e ∙ sym f
 
--- two answers, with head, table and record list, are one
-pub record OneOutcome (a a′ : Answer) (h h′ : Head) (t t′ l l′ : List ℕ) : Type 0 where
-  pub answer : a ≡ a′
-  pub head : h ≡ h′
-  pub table : t ≡ t′
-  pub recordList : l ≡ l′
-
+-- the answer and the head set in place are one, as a by-value call would give them
 pub entry-one-outcome :
     (head : Head) (table changes : List ℕ) (guards : List Guard) (strip list : List ℕ) (a a′ : Answer) (h h′ : Head)
     (t t′ l l′ : List ℕ) → EntryPromise head table changes guards strip list a h t l →
-    EntryPromise head table changes guards strip list a′ h′ t′ l′ → OneOutcome a a′ h h′ t t′ l l′
+    EntryPromise head table changes guards strip list a′ h′ t′ l′ →
+    OneOutcome {A = Done} (record { head = h; answer = a }) (record { head = h′; answer = a′ }) t t′ l l′
 entry-one-outcome head table changes guards strip list a a′ h h′ t t′ l l′ e f =
-    let o = publish-one-outcome head table (lending changes (flat guards) strip list) (record { head = h; answer = a })
-    (record { head = h′; answer = a′ }) t t′ l l′ e f
-    in record {
-      answer = ap (λ (d : Done). d .answer) (o .result);
-      head = ap (λ (d : Done). d .head) (o .result);
-      table = o .table;
-      recordList = o .recordList;
-    }
+    publish-one-outcome head table (lending changes (flat guards) strip list) _ _ t t′ l l′ e f

@@ -1,5 +1,5 @@
 // The final entries: the head is lent and set in place, and the held guards are a lent list of guards. They are thin over the
-// calls of `publish`, which take the head by value and guards as flat numbers; what they promise is said of the flat numbers.
+// calls of `publish`, which take the head by value and know no list of guards; what they promise is said of its flat numbers.
 // Any numbers may come in. The prover does not walk code over a reference to a struct, so `poison_indexes`, `held`, `key_held`,
 // `first_unheld` and `publish` are proved by hand; whatever decides anything is in small functions over plain values.
 mod guarding;

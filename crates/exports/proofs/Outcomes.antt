@@ -8,17 +8,12 @@ use Rattle.rules.specs.declared.Head.{Head}
 use Rattle.rules.specs.declared.Told.{Told}
 use Rattle.rules.specs.Orders.{Call}
 use Rattle.publish.specs.Promises as posting
+use Rattle.publish.proofs.Outcomes.{OneOutcome}
 use Rattle.lane_rules.specs.declared.View.{View}
 use Rattle.lanes.specs.Promises as lane
 use Rattle.exports.specs.declared.Done.{Done}
 use Rattle.exports.specs.declared.Detached.{Detached}
 use Rattle.exports.specs.Promises.{postingSeen, PreparePromise, RollbackPromise, RemovalPromise, PublishPromise, LentPublishPromise, HeldPromise, CountPromise, laneSeen, CachedPromise, RefreshedPromise, DetachPromise, BucketSeen, bucketSeen, SortPromise, BitmapPromise, PrecedesPromise}
-
--- two results of posting calls, with table and record list, are one
-pub record OneOutcome (r r′ : Done) (t t′ l l′ : List ℕ) : Type 0 where
-  pub result : r ≡ r′
-  pub table : t ≡ t′
-  pub recordList : l ≡ l′
 
 alike :
     (r r′ : Done) (t t′ l l′ : List ℕ) (s : posting.Seen) → postingSeen r t l ≡ s → postingSeen r′ t′ l′ ≡ s →
@@ -49,7 +44,7 @@ pub lent-publish-one-outcome :
     (head : Head) (table changes : List ℕ) (guards : List Guard) (strip list : List ℕ) (r r′ : Told) (h h′ : Head)
     (t t′ l l′ : List ℕ) → LentPublishPromise head table changes guards strip list r h t l →
     LentPublishPromise head table changes guards strip list r′ h′ t′ l′ →
-    OneOutcome (record { head = h; told = r }) (record { head = h′; told = r′ }) t t′ l l′
+    OneOutcome {A = Done} (record { head = h; told = r }) (record { head = h′; told = r′ }) t t′ l l′
 lent-publish-one-outcome head table changes guards strip list r r′ h h′ t t′ l l′ e f = alike _ _ t t′ l l′ _ e f
 
 pub held-one-outcome :

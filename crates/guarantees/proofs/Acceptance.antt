@@ -1,6 +1,6 @@
 -- The acceptance law, of the calls themselves: each answer is given exactly where its condition holds.
 use Prim.Native.Nat.{ℕ}
-use mathlib.Core.Path.{_≡_, sym, ap, _∙_}
+use mathlib.Core.Path.{_≡_, ap}
 use mathlib.Core.List.{List}
 use mathlib.Core.Bool.{true}
 use mathlib.Core.Logic.{_↔_}
@@ -24,27 +24,22 @@ of-result P r t l o e h = rw (seen-outcome r t l o e) h
 pub answer-of : (r : Done) (t l : List ℕ) (o : Outcome) → seen r t l ≡ seenOf o → r .answer ≡ o .answer
 answer-of r t l o e = ap (λ (x : Outcome). x .answer) (seen-outcome r t l o e)
 
-exchanged : {P : Answer → Type 0} (a b : Answer) → a ≡ b → ((c : Answer) → (b ≡ c) ↔ P c) → (c : Answer) → (a ≡ c) ↔ P c
-exchanged a b e f c = ((λ h. f c .0 (sym e ∙ h)), (λ k. e ∙ f c .1 k))
-
 module _ (head : Head) (table : List ℕ) (c : Call) (r : Done) (t l : List ℕ) where
   pub prepare-exactly : PreparePromise head table c r t l → (a : Answer) → (r .answer ≡ a) ↔ PrepareAnswers head table c a
-  prepare-exactly k = exchanged _ _ (answer-of r t l (prepareOf head table c) k) (law.prepare-exactly head table c)
+  prepare-exactly k = rw (answer-of r t l (prepareOf head table c) k) (law.prepare-exactly head table c)
 
   pub rollback-exactly : RollbackPromise head table c r t l → (a : Answer) → (r .answer ≡ a) ↔ RollbackAnswers head table c a
-  rollback-exactly k = exchanged _ _ (answer-of r t l (rollbackOf head table c) k) (law.rollback-exactly head table c)
+  rollback-exactly k = rw (answer-of r t l (rollbackOf head table c) k) (law.rollback-exactly head table c)
 
   pub removal-exactly : RemovalPromise head table c r t l → (a : Answer) → (r .answer ≡ a) ↔ RemovalAnswers head table c a
-  removal-exactly k = exchanged _ _ (answer-of r t l (removalOf head table c) k) (law.removal-exactly head table c)
+  removal-exactly k = rw (answer-of r t l (removalOf head table c) k) (law.removal-exactly head table c)
 
   pub publish-exactly : PublishPromise head table c r t l → (a : Answer) → (r .answer ≡ a) ↔ PublishAnswers head table c a
-  publish-exactly k = exchanged _ _ (answer-of r t l (publishOf head table c) k) (law.publish-exactly head table c)
+  publish-exactly k = rw (answer-of r t l (publishOf head table c) k) (law.publish-exactly head table c)
 
   -- a publish is accepted exactly when no check applies, there is room, and every byte that it reads is 0
   pub accepted-exactly : PublishPromise head table c r t l → (isAccepted (r .answer) ≡ true) ↔ Acceptable head table c
-  accepted-exactly k =
-      let e : r .answer ≡ publishOf head table c .answer = answer-of r t l (publishOf head table c) k in
-      rw e (law.accepted-exactly head table c)
+  accepted-exactly k = rw (answer-of r t l (publishOf head table c) k) (law.accepted-exactly head table c)
 
   -- and then leaves the postings and destinations less the sources
   pub accepted-leaves : PublishPromise head table c r t l → Acceptable head table c → Leaves head table c (outcomeOf r t l)
@@ -54,4 +49,4 @@ pub count-exactly :
     (head : Head) (table : List ℕ) (binding key : ℕ) (b : Answer) → CountPromise head table binding key b → (a : Answer) →
     (b ≡ a) ↔ CountAnswers head table binding key a
 count-exactly head table binding key b k =
-    exchanged b _ (told-injective b (countOf head table binding key) k) (law.count-exactly head table binding key)
+    rw (told-injective b (countOf head table binding key) k) (law.count-exactly head table binding key)

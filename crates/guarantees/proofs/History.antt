@@ -16,7 +16,7 @@ use Rattle.rules.specs.Calls.{Outcome, countOf}
 use Rattle.laws.proofs.Answers.{told-injective}
 use Rattle.history.specs.History as claim
 use Rattle.history.specs.History.{Index, published, indexOf, after, outcomes, unbroken, accepted, acceptedOutcomes, said, ownCount, Holds}
-use Rattle.history.proofs.History.{after-append, right-or-withheld}
+use Rattle.history.proofs.History.{after-append, right-or-withheld, empty-holds}
 use Rattle.publish.proofs.Outcomes.{seen-outcome}
 use Rattle.publish.specs.Promises.{PublishPromise}
 use Rattle.entry.specs.Asking.{flat}
@@ -141,7 +141,7 @@ module _ (x : Index) (start : List Posting) (h : Holds x start) where
 pub calls-right-or-withheld-from-empty :
     (x : Index) → wellFormed (x .head) (x .table) ≡ true → x .head .poisoned ≡ 0 → x .head .used ≡ 0 → (ms : List Made) → Run x ms →
     CallsRightOrWithheld x [] ms
-calls-right-or-withheld-from-empty x f p u = calls-right-or-withheld x [] (record { formed = f; healthy = p; just = rw u })
+calls-right-or-withheld-from-empty x f p u = calls-right-or-withheld x [] (empty-holds x f p u)
 
 -- what publish promises on return is what a run asks of each call
 pub promise-kept :

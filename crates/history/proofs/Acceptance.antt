@@ -18,15 +18,14 @@ use Rattle.rules.specs.Orders.{Numbered, Call}
 use Rattle.rules.specs.Answers.{settled, isAccepted}
 use Rattle.rules.specs.Checks.{countChecks, prepareChecks, rollbackChecks, removalChecks, publishChecks}
 use Rattle.rules.specs.Calls.{countOf, Outcome, prepared, prepareOf, rollbackOf, removalOf, publishOf}
-use Rattle.laws.specs.Words.{added, takenAway, numberAt, Quiet, Noisy}
-use Rattle.booleans.proofs.Tests.{clash}
-use Rattle.laws.proofs.Ranks.{Tri, less, equal, more, tri}
+use Rattle.laws.specs.Words.{postingsBefore, added, takenAway, numberAt, Quiet, Noisy}
+use Rattle.booleans.proofs.Tests.{impossible, clash}
 use Rattle.laws.proofs.Flat.{well-formed-parts, used-postings, postings-laid-out}
 use Rattle.laws.proofs.Answers.{refusal-unchanged, unchanged-accepts-not}
 use Rattle.laws.proofs.Checks.{isProper, publish-proper, refuses, Clear, prepare-clear, publish-clear}
 use Rattle.laws.proofs.Undo.{quiet-join, not-quiet}
 use Rattle.laws.proofs.Prepare.{Cause, TakenBack, LeftBehind}
-use Rattle.laws.proofs.Outcomes.{IsReady, IsStopped, start, going, leaving, recordedBack, stop-not-accepted, Published, published, Prepares, prepares, RollsBack, rolls-back, Removes, removes}
+use Rattle.laws.proofs.Outcomes.{IsReady, IsStopped, going, leaving, recordedBack, stop-not-accepted, Published, published, Prepares, prepares, RollsBack, rolls-back, Removes, removes}
 use Rattle.laws.proofs.Outcomes as outcome
 use Rattle.laws.proofs.Sets.{present-said, said-list}
 use Rattle.history.specs.Acceptance.{Acceptable, Fails, Ends, RollbackEnds, RemovalEnds, Answered, PublishAnswers, PrepareAnswers, RollbackAnswers, RemovalAnswers, CountAnswers, Leaves}
@@ -38,12 +37,7 @@ module _ (capacity used : ℕ) (strip : List ℕ) (ds ss : List Numbered) where
       ⊎-elim (λ b. b (g .quiet k (omega arith) h)) (λ e. let r = g .room in omega arith) (f .fault)
 
   fails-one : (k l : ℕ) → Fails capacity used strip ds k → Fails capacity used strip ds l → k ≡ l
-  fails-one k l f g = go (tri k l)
-    where
-      go : Tri k l → k ≡ l
-      go (less h) = absurd (fails-before k l f g h)
-      go (equal h) = h
-      go (more h) = absurd (fails-before l k g f h)
+  fails-one k l f g = let under = fails-before k l f g in let over = fails-before l k g f in omega arith
 
   -- and with room and quiet for all there is none
   fails-not : (n k : ℕ) → used + length ds ≤ capacity → Quiet strip 0 (length ds + n) → Fails capacity used strip ds k → ⊥
@@ -57,12 +51,7 @@ module _ (capacity used : ℕ) (strip : List ℕ) (ds ss : List Numbered) where
   halts-one :
       (i j : ℕ) → Quiet strip 0 (length ds + i) → (byteAt strip (length ds + i) ≡ 0 → ⊥) → Quiet strip 0 (length ds + j) →
       (byteAt strip (length ds + j) ≡ 0 → ⊥) → i ≡ j
-  halts-one i j p b q e = go (tri i j)
-    where
-      go : Tri i j → i ≡ j
-      go (less h) = absurd (halts-before i j q b h)
-      go (equal h) = h
-      go (more h) = absurd (halts-before j i p e h)
+  halts-one i j p b q e = let under = halts-before i j q b in let over = halts-before j i p e in omega arith
 
   abbrev End : Answer → Type 0
   End = Ends capacity used strip ds ss
@@ -116,30 +105,26 @@ module _ (strip : List ℕ) (items : List Numbered) where
   rollback-ends-one a b (RollbackEnds.accepted q) (RollbackEnds.accepted r) = refl
   rollback-ends-one a b (RollbackEnds.accepted q) (RollbackEnds.undo k h x l) = absurd (x (q k (omega arith) h))
   rollback-ends-one a b (RollbackEnds.undo k h x l) (RollbackEnds.accepted q) = absurd (x (q k (omega arith) h))
-  rollback-ends-one a b (RollbackEnds.undo k h x l) (RollbackEnds.undo k′ h′ x′ l′) = ap (λ i. Answer.Undo (numberAt items i)) (go (tri k k′))
-    where
-      go : Tri k k′ → k ≡ k′
-      go (less e) = absurd (x′ (l k′ (omega arith) h′))
-      go (equal e) = e
-      go (more e) = absurd (x (l′ k (omega arith) h))
+  rollback-ends-one a b (RollbackEnds.undo k h x l) (RollbackEnds.undo k′ h′ x′ l′) =
+      let under : k < k′ → ⊥ = λ e. x′ (l k′ (omega arith) h′) in
+      let over : k′ < k → ⊥ = λ e. x (l′ k (omega arith) h) in
+      ap (λ i. Answer.Undo (numberAt items i)) (omega arith)
 
   pub removal-ends-one : (a b : Answer) → RemovalEnds strip items a → RemovalEnds strip items b → a ≡ b
   removal-ends-one a b (RemovalEnds.accepted q) (RemovalEnds.accepted r) = refl
   removal-ends-one a b (RemovalEnds.accepted q) (RemovalEnds.source j h l x) = absurd (x (q j (omega arith) h))
   removal-ends-one a b (RemovalEnds.source j h l x) (RemovalEnds.accepted q) = absurd (x (q j (omega arith) h))
-  removal-ends-one a b (RemovalEnds.source j h l x) (RemovalEnds.source j′ h′ l′ x′) = ap (λ i. Answer.Source (numberAt items i)) (go (tri j j′))
-    where
-      go : Tri j j′ → j ≡ j′
-      go (less e) = absurd (x (l′ j (omega arith) e))
-      go (equal e) = e
-      go (more e) = absurd (x′ (l j′ (omega arith) e))
+  removal-ends-one a b (RemovalEnds.source j h l x) (RemovalEnds.source j′ h′ l′ x′) =
+      let under : j < j′ → ⊥ = λ e. x (l′ j (omega arith) e) in
+      let over : j′ < j → ⊥ = λ e. x′ (l j′ (omega arith) e) in
+      ap (λ i. Answer.Source (numberAt items i)) (omega arith)
 
 -- where the checks are of a kind and the ends exclude each other, each answer is given exactly where its condition holds
 refused-one : (v : Verdict) (a b : Answer) → v ≡ Verdict.Refused a → v ≡ Verdict.Refused b → a ≡ b
 refused-one v a b p q = cc
 
 refused-not : {A : Type 0} (v : Verdict) (a : Answer) → v ≡ Verdict.Refused a → v ≡ Verdict.Passes → A
-refused-not v a p q = let z : _≡_ {A = ℕ} 0 1 = cc in absurd (omega arith)
+refused-not v a p q = impossible (cc)
 
 answered-one :
     (v : Verdict) (E : Answer → Type 0) → ((a b : Answer) → E a → E b → a ≡ b) → (a b : Answer) → Answered v E a →
@@ -163,7 +148,7 @@ accepted-passes v E p a h (Answered.refused e) =
 accepted-passes v E p a h (Answered.ended e k) = (e, k)
 
 module _ (head : Head) (table : List ℕ) (c : Call) where
-  used-start : Clear head table c → length (start head table) ≡ head .used
+  used-start : Clear head table c → length (postingsBefore head table) ≡ head .used
   used-start k = used-postings head table (well-formed-parts head table (k .formed))
 
   ready-room : Clear head table c → IsReady head table c → head .used + length (going c) ≤ capacity table
@@ -182,7 +167,7 @@ module _ (head : Head) (table : List ℕ) (c : Call) where
     where
       go :
           (why : Answer) →
-          Cause (byteAt (c .strip) (0 + s .at)) (length (start head table) + s .at) (capacity table) (numberAt (going c) (s .at)) why →
+          Cause (byteAt (c .strip) (0 + s .at)) (length (postingsBefore head table) + s .at) (capacity table) (numberAt (going c) (s .at)) why →
           (byteAt (c .strip) (s .at) ≡ 0 → ⊥) ⊎ (head .used + s .at ≡ capacity table)
       go why (Cause.store b) = inl (rw (zero-add (s .at)) at b)
       go why (Cause.full b e) = let u = used-start k in inr (omega arith)
@@ -201,8 +186,8 @@ module _ (head : Head) (table : List ℕ) (c : Call) where
 
       go :
           (why : Answer) →
-          Cause (byteAt (c .strip) (0 + s .at)) (length (start head table) + s .at) (capacity table) (numberAt (going c) (s .at)) why →
-          TakenBack (c .strip) (0 + s .at + 1) (0 + s .at + 1 + (0 + s .at)) (start head table) why (prepared head table c) ⊎ LeftBehind (c .strip) (0 + s .at + 1) (0 + s .at + 1 + (0 + s .at)) (numberAt (going c) (s .at)) (start head table) (prepared head table c) →
+          Cause (byteAt (c .strip) (0 + s .at)) (length (postingsBefore head table) + s .at) (capacity table) (numberAt (going c) (s .at)) why →
+          TakenBack (c .strip) (0 + s .at + 1) (0 + s .at + 1 + (0 + s .at)) (postingsBefore head table) why (prepared head table c) ⊎ LeftBehind (c .strip) (0 + s .at + 1) (0 + s .at + 1 + (0 + s .at)) (numberAt (going c) (s .at)) (postingsBefore head table) (prepared head table c) →
           Ends (capacity table) (head .used) (c .strip) (going c) ss (prepared head table c .answer)
       go why (Cause.store b) u =
           ⊎-elim (λ t. rw (t .answers) (Ends.store (s .at) f (rw z at b) (rw z at (t .quiet)))) (λ l. rw (l .answers) (Ends.undo (s .at) f (rw z at (l .noisy)))) u
@@ -322,11 +307,11 @@ module _ (head : Head) (table : List ℕ) (c : Call) where
         bindings = refl;
         poisoned = refl;
         recordList = refl;
-        set = λ p. rw (postings-laid-out (length table) (takenAway (leaving c) (added (going c) (start head table)))) (present-said p (going c) (leaving c) (start head table));
-        list = λ l h f. let e = said-list (going c) (leaving c) (start head table) l sorted h f in (ap length e, ap (laidOut (length table)) e);
+        set = λ p. rw (postings-laid-out (length table) (takenAway (leaving c) (added (going c) (postingsBefore head table)))) (present-said p (going c) (leaving c) (postingsBefore head table));
+        list = λ l h f. let e = said-list (going c) (leaving c) (postingsBefore head table) l sorted h f in (ap length e, ap (laidOut (length table)) e);
       })
     where
-      sorted : ascending (start head table) ≡ true
+      sorted : ascending (postingsBefore head table) ≡ true
       sorted = well-formed-parts head table (publish-clear head table c (k .passes) .formed) .sorted
 
 -- the answers of a count

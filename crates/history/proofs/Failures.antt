@@ -6,6 +6,7 @@ use mathlib.Core.Path.{_≡_, refl, ap, _∙_}
 use mathlib.Core.List.{List, []}
 use mathlib.Core.Bool.{true, false, not, _&&_, _||_, and-false}
 use mathlib.Core.Logic.{⊎-elim}
+use mathlib.Mathlib.Data.Bool.Basic.{and-elim-right}
 use lib.ListN.{length, getD, take, length-reverse}
 use lib.Seq.{length-take-le, getD-take}
 use lib.Dec.{eqb, leb}
@@ -16,19 +17,19 @@ use Rattle.rules.specs.declared.Head.{Head}
 use Rattle.rules.specs.declared.Answer.{Answer}
 use Rattle.rules.specs.declared.Verdict.{Verdict}
 use Rattle.rules.specs.Postings.{present}
-use Rattle.rules.specs.Table.{capacity, postings}
+use Rattle.rules.specs.Table.{capacity}
 use Rattle.rules.specs.Orders.{Numbered, postingsOf, numbersOf, Call}
 use Rattle.rules.specs.Answers.{toldOf, poisons, settled}
 use Rattle.rules.specs.Checks.{stripCheck, publishChecks, removalChecks, prepareChecks, rollbackChecks}
 use Rattle.rules.specs.Publication.{Stage, rolledBack}
 use Rattle.rules.specs.Calls.{Outcome, shown, prepared, prepareOf, rollbackOf, removalOf, publishOf}
-use Rattle.laws.specs.Words.{added, takenAway, nowhere, numberAt, Quiet, isRefusal}
-use Rattle.booleans.proofs.Tests.{clash, and-right}
+use Rattle.laws.specs.Words.{postingsBefore, added, takenAway, nowhere, numberAt, Quiet, isRefusal}
+use Rattle.booleans.proofs.Tests.{clash}
 use Rattle.laws.proofs.Flat.{well-formed-parts, used-postings, postings-laid-out}
 use Rattle.laws.proofs.Checks.{must-holds, first-passes, rest-passes, isProper, prepare-proper, rollback-proper, removal-proper, publish-proper, refuses, Clear, prepare-clear, publish-clear}
 use Rattle.laws.proofs.Prepare.{Cause, TakenBack, LeftBehind}
 use Rattle.laws.proofs.Sets.{present-added, present-taken-away, present-said}
-use Rattle.laws.proofs.Outcomes.{IsStopped, start, going, leaving, sourcesGone, undid, removedAlone, Published, published, Prepares, prepares, RollsBack, rolls-back, Removes, removes}
+use Rattle.laws.proofs.Outcomes.{IsStopped, going, leaving, sourcesGone, undid, removedAlone, Published, published, Prepares, prepares, RollsBack, rolls-back, Removes, removes}
 use Rattle.history.specs.Upstream.{postingsLeft}
 use Rattle.history.specs.Failures.{poisonedWith, goneAt, stuck, freed, SourceLeaves, PublishSourceLeaves, RemovalSourceLeaves, UndoLeaves, recordedIn, RollbackLeaves}
 use Rattle.history.proofs.Acceptance.{stopped-fails, ready-quiet}
@@ -51,7 +52,7 @@ module _ (head : Head) (table : List ℕ) (c : Call) where
   unfolding stripCheck properStrip
   proper-bytes h i =
       byte-most (c .strip) i
-      (and-right (leb (length (c .strip)) mostBytes) (properBytes (c .strip)) (must-holds (properStrip (c .strip)) Answer.Strip h))
+      (and-elim-right (leb (length (c .strip)) mostBytes) (properBytes (c .strip)) (must-holds (properStrip (c .strip)) Answer.Strip h))
 
   publish-bytes : publishChecks head table c ≡ Verdict.Passes → (i : ℕ) → byteAt (c .strip) i ≤ 2
   unfolding publishChecks
@@ -76,7 +77,7 @@ module _ (head : Head) (table : List ℕ) (c : Call) where
   source-leaves :
       (list : List ℕ) (ds : List Numbered) (j : ℕ) (o : Outcome) → j < length (leaving c) → Quiet (c .strip) 0 (length ds + j) →
       (byteAt (c .strip) (length ds + j) ≡ 0 → ⊥) →
-      o ≡ poisonedWith head table list (Answer.Source (numberAt (leaving c) j)) (takenAway (take (goneAt (byteAt (c .strip) (length ds + j)) j) (leaving c)) (added ds (start head table))) →
+      o ≡ poisonedWith head table list (Answer.Source (numberAt (leaving c) j)) (takenAway (take (goneAt (byteAt (c .strip) (length ds + j)) j) (leaving c)) (added ds (postingsBefore head table))) →
       SourceLeaves head table list (c .strip) ds (leaving c) o
   source-leaves list ds j o l q f e =
       record {
@@ -85,7 +86,7 @@ module _ (head : Head) (table : List ℕ) (c : Call) where
         quiet = q;
         fault = f;
         outcome = e;
-        set = λ p. ap (present p) (poisoned-left list _ _ o e) ∙ present-said p ds (take (goneAt (byteAt (c .strip) (length ds + j)) j) (leaving c)) (start head table);
+        set = λ p. ap (present p) (poisoned-left list _ _ o e) ∙ present-said p ds (take (goneAt (byteAt (c .strip) (length ds + j)) j) (leaving c)) (postingsBefore head table);
       }
 
   -- a prepare that stopped says 10, 11 or 12
@@ -128,42 +129,42 @@ module _ (head : Head) (table : List ℕ) (c : Call) where
   -- the postings that a prepare which stopped leaves
   stopped-list :
       Clear head table c → (s : IsStopped head table c) →
-      prepared head table c .postings ≡ added (stuck (c .strip) (s .at + 1) (take (s .at) (going c))) (start head table)
+      prepared head table c .postings ≡ added (stuck (c .strip) (s .at + 1) (take (s .at) (going c))) (postingsBefore head table)
   stopped-list k s =
       let w = well-formed-parts head table (k .formed) in
       let f = stopped-fails head table c k s in
       let u = used-postings head table w in
       let r = f .room in
       let z : 0 + s .at ≡ s .at = zero-add (s .at) in
-      prepare-stops (capacity table) (c .strip) (going c) [] 0 (start head table) (s .at) (k .fresh) (s .there) (s .quiet) (omega arith) (rw (z, u) (f .fault))
-      ∙ (undoing-leaves (c .strip) (take (s .at) (going c)) Verdict.Passes (0 + s .at + 1) (added (take (s .at) (going c)) (start head table))
+      prepare-stops (capacity table) (c .strip) (going c) [] 0 (postingsBefore head table) (s .at) (k .fresh) (s .there) (s .quiet) (omega arith) (rw (z, u) (f .fault))
+      ∙ (undoing-leaves (c .strip) (take (s .at) (going c)) Verdict.Passes (0 + s .at + 1) (added (take (s .at) (going c)) (postingsBefore head table))
       ∙ rw z
-      (stuck-list (c .strip) (s .at + 1) (take (s .at) (going c)) (start head table) (fresh-take (s .at) (going c) (start head table) (k .fresh)) (w .sorted)))
+      (stuck-list (c .strip) (s .at + 1) (take (s .at) (going c)) (postingsBefore head table) (fresh-take (s .at) (going c) (postingsBefore head table) (k .fresh)) (w .sorted)))
 
   -- the postings at entry, and of the destinations before the failed insertion those whose undo byte is 1
   undo-set :
       (j : ℕ) (a : Answer) (o : Outcome) →
-      o ≡ poisonedWith head table (c .recordList) a (added (stuck (c .strip) (j + 1) (take j (going c))) (start head table)) →
+      o ≡ poisonedWith head table (c .recordList) a (added (stuck (c .strip) (j + 1) (take j (going c))) (postingsBefore head table)) →
       (p : Posting) →
-      present p (postingsLeft o) ≡ (present p (start head table) || present p (postingsOf (stuck (c .strip) (j + 1) (take j (going c)))))
+      present p (postingsLeft o) ≡ (present p (postingsBefore head table) || present p (postingsOf (stuck (c .strip) (j + 1) (take j (going c)))))
   undo-set j a o e p =
       ap (present p) (poisoned-left (c .recordList) a _ o e)
-      ∙ present-added p (stuck (c .strip) (j + 1) (take j (going c))) (start head table)
+      ∙ present-added p (stuck (c .strip) (j + 1) (take j (going c))) (postingsBefore head table)
 
   -- each of these destinations by its own byte
   undo-each :
       Clear head table c → (j : ℕ) (a : Answer) (o : Outcome) →
-      o ≡ poisonedWith head table (c .recordList) a (added (stuck (c .strip) (j + 1) (take j (going c))) (start head table)) →
+      o ≡ poisonedWith head table (c .recordList) a (added (stuck (c .strip) (j + 1) (take j (going c))) (postingsBefore head table)) →
       j < length (going c) → (i : ℕ) → i < j →
       present (getD (going c) i nowhere .posting) (postingsLeft o) ≡ eqb (byteAt (c .strip) (j + 1 + (j - (i + 1)))) 1
   undo-each k j a o e h i l =
       let n : length (take j (going c)) ≡ j = length-take-le j (going c) (omega arith) in
       let m : i < length (take j (going c)) = omega arith in
       let g : getD (take j (going c)) i nowhere ≡ getD (going c) i nowhere = getD-take j (going c) i nowhere l in
-      let f = fresh-take j (going c) (start head table) (k .fresh) in
+      let f = fresh-take j (going c) (postingsBefore head table) (k .fresh) in
       undo-set j a o e (getD (going c) i nowhere .posting)
-      ∙ rw (fresh-at (going c) (start head table) (k .fresh) i (omega arith))
-      (rw (n, g) at (stuck-each (c .strip) (j + 1) (take j (going c)) (start head table) f i m))
+      ∙ rw (fresh-at (going c) (postingsBefore head table) (k .fresh) i (omega arith))
+      (rw (n, g) at (stuck-each (c .strip) (j + 1) (take j (going c)) (postingsBefore head table) f i m))
 
   -- a stopped prepare that says 12, as prepare and publish show it
   undo-leaves :
@@ -171,13 +172,13 @@ module _ (head : Head) (table : List ℕ) (c : Call) where
       toldOf (o .answer) .answer ≡ 12 → UndoLeaves head table c o
   undo-leaves k s o e n = ⊎-elim back left (s .undo)
     where
-      back : TakenBack (c .strip) (0 + s .at + 1) (0 + s .at + 1 + (0 + s .at)) (start head table) (s .why) (prepared head table c) → UndoLeaves head table c o
+      back : TakenBack (c .strip) (0 + s .at + 1) (0 + s .at + 1 + (0 + s .at)) (postingsBefore head table) (s .why) (prepared head table c) → UndoLeaves head table c o
       back t =
           let l = cause-below _ _ _ _ (s .why) (s .cause) in
           let z = rw (e, t .answers) at n in
           absurd (omega arith)
 
-      left : LeftBehind (c .strip) (0 + s .at + 1) (0 + s .at + 1 + (0 + s .at)) (numberAt (going c) (s .at)) (start head table) (prepared head table c) → UndoLeaves head table c o
+      left : LeftBehind (c .strip) (0 + s .at + 1) (0 + s .at + 1 + (0 + s .at)) (numberAt (going c) (s .at)) (postingsBefore head table) (prepared head table c) → UndoLeaves head table c o
       left b =
           let is = e ∙ shown-poisoned (c .recordList) (prepared head table c) _ _ (b .answers) refl (stopped-list k s) in
           record {
@@ -213,12 +214,12 @@ module _ (head : Head) (table : List ℕ) (c : Call) where
   -- the postings at entry without the recorded destinations whose byte is not 1
   rollback-set :
       (a : Answer) (o : Outcome) →
-      o ≡ poisonedWith head table (c .recordList) a (takenAway (freed (c .strip) 0 (recordedIn c)) (start head table)) →
+      o ≡ poisonedWith head table (c .recordList) a (takenAway (freed (c .strip) 0 (recordedIn c)) (postingsBefore head table)) →
       (p : Posting) →
-      present p (postingsLeft o) ≡ (present p (start head table) && not (present p (postingsOf (freed (c .strip) 0 (recordedIn c)))))
+      present p (postingsLeft o) ≡ (present p (postingsBefore head table) && not (present p (postingsOf (freed (c .strip) 0 (recordedIn c)))))
   rollback-set a o e p =
       ap (present p) (poisoned-left (c .recordList) a _ o e)
-      ∙ present-taken-away p (freed (c .strip) 0 (recordedIn c)) (start head table)
+      ∙ present-taken-away p (freed (c .strip) 0 (recordedIn c)) (postingsBefore head table)
 
   -- 12 of rollback
   pub rollback-undo-leaves :
@@ -235,7 +236,7 @@ module _ (head : Head) (table : List ℕ) (c : Call) where
           let is =
           k
           ∙ shown-poisoned (c .recordList) (rolledBack (undid head table c)) _ _ (ap (λ v. settled v (Answer.Accepted 0)) (r .verdict)) refl
-          (undoing-leaves (c .strip) (recordedIn c) Verdict.Passes 0 (start head table))
+          (undoing-leaves (c .strip) (recordedIn c) Verdict.Passes 0 (postingsBefore head table))
           in record {
             at = r .at;
             there = omega arith;
@@ -246,6 +247,6 @@ module _ (head : Head) (table : List ℕ) (c : Call) where
             gone =
                 λ i l f.
                 rollback-set _ o is (getD (recordedIn c) i nowhere .posting)
-                ∙ rw (freed-each (c .strip) 0 (recordedIn c) i l (rw (zero-add (length (recordedIn c) - (i + 1))) f)) (and-false (present (getD (recordedIn c) i nowhere .posting) (start head table)));
+                ∙ rw (freed-each (c .strip) 0 (recordedIn c) i l (rw (zero-add (length (recordedIn c) - (i + 1))) f)) (and-false (present (getD (recordedIn c) i nowhere .posting) (postingsBefore head table)));
             stays = λ p l f. rollback-set _ o is p ∙ rw (l, freed-none (c .strip) 0 (recordedIn c) p (λ i m s. rw (zero-add (length (recordedIn c) - (i + 1))) (f i m s)));
           }

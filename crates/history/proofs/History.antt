@@ -4,6 +4,7 @@ use Prim.Native.Nat.{ℕ}
 use mathlib.Core.Path.{_≡_, refl, sym, ap, _∙_}
 use mathlib.Core.List.{List, [], _∷_, _++_, map}
 use mathlib.Core.Bool.{Bool, true, false, cond, not, _&&_}
+use mathlib.Mathlib.Data.Bool.Basic.{and-elim-left, and-elim-right}
 use lib.ListN.{length}
 use lib.Dec.{ltb}
 use borrow.Author.Tests.{eq-eqb, not-true}
@@ -19,7 +20,7 @@ use Rattle.rules.specs.Answers.{isAccepted, poisons, settled}
 use Rattle.rules.specs.Checks.{must, orElse, firstRefusal, tableCheck, poisonCheck, listCheck, stripCheck, roomCheck, guardCheck, twiceCheck, presentCheck, overlapCheck, publishChecks, countChecks}
 use Rattle.rules.specs.Calls.{Outcome, headWith, asBefore, countOf}
 use Rattle.laws.specs.Words.{added, takenAway}
-use Rattle.booleans.proofs.Tests.{clash, and-left, and-right}
+use Rattle.booleans.proofs.Tests.{clash}
 use Rattle.laws.proofs.Flat.{well-formed-parts, used-postings, laid-out-same, postings-laid-out}
 use Rattle.laws.proofs.Answers.{Kind, kind}
 use Rattle.laws.proofs.Checks.{first-passes, rest-passes, cons-passes}
@@ -101,13 +102,13 @@ postings-next x c a =
 unbroken-first : (x : Index) (c : Call) (cs : List Call) → unbroken x (c ∷ cs) ≡ true → poisons (published x c .answer) ≡ false
 unfolding unbroken
 unbroken-first x c cs h =
-    not-true (poisons (published x c .answer)) (and-left (not (poisons (published x c .answer))) (unbroken (indexOf (published x c)) cs) h)
+    not-true (poisons (published x c .answer)) (and-elim-left (not (poisons (published x c .answer))) (unbroken (indexOf (published x c)) cs) h)
 
 unbroken-rest :
     (x : Index) (c : Call) (cs : List Call) → unbroken x (c ∷ cs) ≡ true → unbroken (indexOf (published x c)) cs ≡ true
 unfolding unbroken
 unbroken-rest x c cs h =
-    and-right (not (poisons (published x c .answer))) (unbroken (indexOf (published x c)) cs) h
+    and-elim-right (not (poisons (published x c .answer))) (unbroken (indexOf (published x c)) cs) h
 
 -- from any live index: an unbroken history leaves it live, with what the accepted calls say
 live-after : (x : Index) (cs : List Call) → Live x → unbroken x cs ≡ true → Live (after x cs)
@@ -422,8 +423,7 @@ module _ (x : Index) (start : List Posting) (e : Holds x start) where
   pub right-or-withheld : (cs : List Call) → RightOrWithheld x start cs
   right-or-withheld cs = record { right = right-until cs; withheld = withheld-after cs }
 
--- and from an empty index: well formed, unpoisoned, used 0
-pub right-or-withheld-from-empty :
-    (x : Index) → wellFormed (x .head) (x .table) ≡ true → x .head .poisoned ≡ 0 → x .head .used ≡ 0 → (cs : List Call) →
-    RightOrWithheld x [] cs
-right-or-withheld-from-empty x f p u = right-or-withheld x [] (record { formed = f; healthy = p; just = rw u })
+-- an empty index, that is well formed, unpoisoned, used 0, holds no posting
+pub empty-holds :
+    (x : Index) → wellFormed (x .head) (x .table) ≡ true → x .head .poisoned ≡ 0 → x .head .used ≡ 0 → Holds x []
+empty-holds x f p u = record { formed = f; healthy = p; just = rw u }

@@ -6,6 +6,7 @@ use mathlib.Core.Path.{_≡_, refl, sym, ap, _∙_}
 use mathlib.Core.List.{List, [], _∷_, reverseAux, reverse}
 use mathlib.Core.Bool.{Bool, true, false, cond, not, _&&_, _||_, and-true}
 use mathlib.Core.Logic.{_⊎_, inl, inr}
+use mathlib.Mathlib.Data.Bool.Basic.{and-elim-left, and-elim-right, or-inr}
 use lib.ListN.{length, getD, take}
 use lib.Dec.{eqb, leb}
 use borrow.Author.Tests.{ne-eqb, eqb-true, eqb-false, leb-true}
@@ -18,7 +19,7 @@ use Rattle.rules.specs.Storage.{removal}
 use Rattle.rules.specs.Orders.{Numbered, postingsOf}
 use Rattle.rules.specs.Publication.{undoing, preparing, removing}
 use Rattle.laws.specs.Words.{added, takenAway, nowhere, Quiet}
-use Rattle.booleans.proofs.Tests.{either, by-cases, and-left, and-right, or-left, or-right, or-second, neither}
+use Rattle.booleans.proofs.Tests.{either, by-cases, or-left, or-right, neither}
 use Rattle.laws.proofs.Ranks.{same-equal, same-self}
 use Rattle.laws.proofs.Lists.{present-inserted, length-inserted, differs}
 use Rattle.laws.proofs.Steps.{removing-clear, removing-fails, preparing-clear, preparing-full, preparing-store}
@@ -32,8 +33,8 @@ use Rattle.history.specs.Failures.{goneAt, stuck, freed}
 pub byte-most : (strip : List ℕ) (i : ℕ) → properBytes strip ≡ true → byteAt strip i ≤ 2
 unfolding properBytes
 byte-most [] i h = omega arith
-byte-most (b ∷ bs) zero h = leb-true b 2 (and-left (leb b 2) (properBytes bs) h)
-byte-most (b ∷ bs) (suc i) h = byte-most bs i (and-right (leb b 2) (properBytes bs) h)
+byte-most (b ∷ bs) zero h = leb-true b 2 (and-elim-left (leb b 2) (properBytes bs) h)
+byte-most (b ∷ bs) (suc i) h = byte-most bs i (and-elim-right (leb b 2) (properBytes bs) h)
 
 -- a byte of a removal that failed is 1 or 2
 failed-byte : (byte : ℕ) → (byte ≡ 0 → ⊥) → byte ≤ 2 → (byte ≡ 1) ⊎ (byte ≡ 2)
@@ -185,14 +186,14 @@ unfolding present
 fresh-apart [] ps p f h = refl
 fresh-apart (d ∷ ds) ps p f h =
     neither (same p (d .posting)) (present p (postingsOf ds)) (differs p (d .posting) ps h (f .0))
-    (fresh-apart ds (inserted (d .posting) ps) p (f .1) (present-inserted p (d .posting) ps ∙ or-second (same p (d .posting)) (present p ps) h))
+    (fresh-apart ds (inserted (d .posting) ps) p (f .1) (present-inserted p (d .posting) ps ∙ or-inr (same p (d .posting)) (present p ps) h))
 
 present-at : (ds : List Numbered) (i : ℕ) → i < length ds → present (getD ds i nowhere .posting) (postingsOf ds) ≡ true
 unfolding present
 present-at [] i l = absurd (omega arith)
 present-at (d ∷ ds) zero l = rw (same-self (d .posting))
 present-at (d ∷ ds) (suc i) l =
-    or-second (same (getD ds i nowhere .posting) (d .posting)) (present (getD ds i nowhere .posting) (postingsOf ds)) (present-at ds i (omega arith))
+    or-inr (same (getD ds i nowhere .posting) (d .posting)) (present (getD ds i nowhere .posting) (postingsOf ds)) (present-at ds i (omega arith))
 
 -- one more posting beside those that were there, those put in, those freed and those that stay
 one-stays :
@@ -314,7 +315,7 @@ module _ (strip : List ℕ) (from : ℕ) where
       let ih = freed-each ds i (omega arith) (rw e at h) in
       by-cases (λ (k : List Numbered). present (getD ds i nowhere .posting) (postingsOf k) ≡ true) (eqb (byteAt strip (from + length ds)) 1)
       (λ b. ih)
-      (λ b. or-second (same (getD ds i nowhere .posting) (d .posting)) _ ih)
+      (λ b. or-inr (same (getD ds i nowhere .posting) (d .posting)) _ ih)
 
   -- and what equals none of these is not freed
   pub freed-none :

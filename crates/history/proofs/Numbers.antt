@@ -15,6 +15,7 @@ use Rattle.rules.specs.Orders.{properLists, destinations, sources, Call, change
 use Rattle.rules.specs.Answers.{toldOf}
 use Rattle.rules.specs.Checks.{must, orElse, firstRefusal, tableCheck, poisonCheck, listCheck, stripCheck, roomCheck, guardCheck, among, recordCheck, twiceCheck, presentCheck, overlapCheck, prepareChecks, rollbackChecks, removalChecks, publishChecks, countChecks}
 use Rattle.rules.specs.Calls.{prepareOf, rollbackOf, removalOf, publishOf, countOf}
+use Rattle.booleans.proofs.Tests.{impossible}
 use Rattle.laws.proofs.Names.{guard-names, record-names, twice-names, present-names, overlap-names}
 use Rattle.laws.proofs.Outcomes.{recordedBack}
 use Rattle.history.specs.Acceptance.{Ends, RollbackEnds, RemovalEnds, Answered}
@@ -27,7 +28,7 @@ Says ns v = (a : Answer) → v ≡ Verdict.Refused a → among (toldOf a .answer
 
 module _ (ns : List ℕ) where
   says-must : (b : Bool) (a : Answer) → among (toldOf a .answer) ns ≡ true → Says ns (must b a)
-  says-must true a h x e = let z : _≡_ {A = ℕ} 0 1 = cc in absurd (omega arith)
+  says-must true a h x e = impossible (cc)
   says-must false a h x e = let k : x ≡ a = cc in rw k h
 
   says-else : (v w : Verdict) → Says ns v → Says ns w → Says ns (orElse v w)
@@ -36,7 +37,7 @@ module _ (ns : List ℕ) where
 
   says-none : Says ns (firstRefusal [])
   unfolding firstRefusal
-  says-none x e = let z : _≡_ {A = ℕ} 0 1 = cc in absurd (omega arith)
+  says-none x e = impossible (cc)
 
   says-cons : (v : Verdict) (vs : List Verdict) → Says ns v → Says ns (firstRefusal vs) → Says ns (firstRefusal (v ∷ vs))
   unfolding firstRefusal

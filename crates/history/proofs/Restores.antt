@@ -18,13 +18,14 @@ use Rattle.rules.specs.Answers.{isAccepted, poisons, settled}
 use Rattle.rules.specs.Checks.{tableCheck, poisonCheck, listCheck, stripCheck, guardCheck, recordCheck, prepareChecks, rollbackChecks}
 use Rattle.rules.specs.Publication.{Stage, rolledBack}
 use Rattle.rules.specs.Calls.{Outcome, asBefore, shown, prepareOf, rollbackOf}
-use Rattle.laws.specs.Words.{takenAway, Quiet}
+use Rattle.laws.specs.Words.{postingsBefore, takenAway, Quiet}
+use Rattle.booleans.proofs.Tests.{impossible}
 use Rattle.laws.proofs.Flat.{well-formed-parts, used-postings, laid-out-same}
 use Rattle.laws.proofs.Checks.{first-passes, rest-passes, cons-passes, none-left, Clear, prepare-clear}
 use Rattle.laws.proofs.Calls.{prepare-well-formed, prepare-stable}
 use Rattle.laws.proofs.Records.{recorded-numbers, record-taken, added-back}
 use Rattle.laws.proofs.Outcomes.{RollsBack, rolls-back, undid, recordedBack}
-use Rattle.history.specs.Upstream.{postingsBefore, postingsLeft, backOf}
+use Rattle.history.specs.Upstream.{postingsLeft, backOf}
 use Rattle.history.proofs.Upstream.{PreparedWell, prepare-accepted}
 
 module _ (head : Head) (table : List ℕ) (c : Call) (strip : List ℕ) (ok : isAccepted (prepareOf head table c .answer) ≡ true) where
@@ -132,8 +133,7 @@ module _ (head : Head) (table : List ℕ) (c : Call) (strip : List ℕ) (ok : is
       go : (o : Outcome) → RollsBack ohead otable back o → o ≡ asBefore head table (back .recordList) (Answer.Accepted 0)
       go o (RollsBack.refused a e k) =
           let p = checks-pass s (well .passes) in
-          let z : _≡_ {A = ℕ} 0 1 = cc in
-          absurd (omega arith)
+          impossible (cc)
       go o (RollsBack.clean e r k) =
           k
           ∙ shown-before (back .recordList) (rolledBack (undid ohead otable back)) (ap (λ v. settled v (Answer.Accepted 0)) (r .verdict))

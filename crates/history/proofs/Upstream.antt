@@ -19,7 +19,7 @@ use Rattle.rules.specs.Answers.{isAccepted, poisons}
 use Rattle.rules.specs.Checks.{prepareChecks, rollbackChecks, removalChecks}
 use Rattle.rules.specs.Publication.{Stage, rolledBack}
 use Rattle.rules.specs.Calls.{Outcome, asBefore, decided, shown, prepared, prepareOf, rollbackOf, removalOf}
-use Rattle.laws.specs.Words.{isRefusal, added, takenAway, RemovedOnly, Stable, isUnchanged}
+use Rattle.laws.specs.Words.{postingsBefore, isRefusal, added, takenAway, RemovedOnly, Stable, isUnchanged}
 use Rattle.booleans.proofs.Tests.{clash}
 use Rattle.laws.proofs.Flat.{postings-laid-out}
 use Rattle.laws.proofs.Answers.{Kind, kind, refusal-unchanged, unchanged-accepts-not}
@@ -33,7 +33,7 @@ use Rattle.laws.proofs.Calls.{prepare-as-before, rollback-as-before, removal-as
 use Rattle.laws.proofs.Records.{recorded-numbers, rising-numbers, among-numbers, record-taken, present-reverse}
 use Rattle.laws.proofs.Sets.{present-added, present-taken-away}
 use Rattle.laws.proofs.Outcomes.{going, leaving, recordedBack, undid, removedAlone, stop-not-accepted, Prepares, prepares, RollsBack, rolls-back, Removes, removes}
-use Rattle.history.specs.Upstream.{postingsBefore, postingsLeft, Valid, UniqueDestinations, Disjoint, ValidIndices, Errors, RollbackClauses, PrepareClauses, RemovalClauses, PrefixRecord}
+use Rattle.history.specs.Upstream.{postingsLeft, Valid, UniqueDestinations, Disjoint, ValidIndices, Errors, RollbackClauses, PrepareClauses, RemovalClauses, PrefixRecord}
 
 pub prefix-record : (cs : List Change) → PrefixRecord cs (numbersOf (destinations cs))
 prefix-record cs =

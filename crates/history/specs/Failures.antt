@@ -15,9 +15,9 @@ use Rattle.rules.specs.Postings.{same, present}
 use Rattle.rules.specs.Table.{capacity, laidOut}
 use Rattle.rules.specs.Orders.{Numbered, destinations, sources, postingsOf, numbersOf, recorded, Call, changesOf}
 use Rattle.rules.specs.Calls.{Outcome, headWith}
-use Rattle.laws.specs.Words.{added, takenAway, nowhere, numberAt, Quiet, Noisy}
+use Rattle.laws.specs.Words.{postingsBefore, added, takenAway, nowhere, numberAt, Quiet, Noisy}
 use Rattle.history.specs.Acceptance.{Fails}
-use Rattle.history.specs.Upstream.{postingsBefore, postingsLeft}
+use Rattle.history.specs.Upstream.{postingsLeft}
 
 -- all that is seen after a 12 or 13 that left these postings: the poison flag is set, the binding count and the size are as before
 abbrev pub poisonedWith : Head → List ℕ → List ℕ → Answer → List Posting → Outcome

@@ -17,12 +17,8 @@ use Rattle.rules.specs.Orders.{guards, destinations, sources, postingsOf, numbe
 use Rattle.rules.specs.Answers.{isAccepted, poisons}
 use Rattle.rules.specs.Checks.{guarded, recordable, among, recordFrom}
 use Rattle.rules.specs.Calls.{Outcome, asBefore}
-use Rattle.laws.specs.Words.{nowhere, RemovedOnly, Stable, rising, isRefusal}
+use Rattle.laws.specs.Words.{postingsBefore, nowhere, RemovedOnly, Stable, rising, isRefusal}
 use Rattle.laws.specs.Names.{Apart, Repeated}
-
--- the postings of a table with its head
-abbrev pub postingsBefore : Head → List ℕ → List Posting
-postingsBefore head table = postings (head .used) table
 
 -- the postings that a call leaves
 abbrev pub postingsLeft : Outcome → List Posting

@@ -1,11 +1,11 @@
 -- Cases on what a compare or a pass says, and how the answers are told apart.
-use Prim.Native.Nat.{ℕ}
 use native.Mathlib.Omega.{arith}
 use mathlib.Core.Path.{_≡_, refl, ap}
 use mathlib.Core.Bool.{true, false}
+use mathlib.Mathlib.Data.Bool.Basic.{and-elim-left}
 use lib.Dec.{leb}
 use borrow.Author.Tests.{ne-eqb, leb-true}
-use Rattle.booleans.proofs.Tests.{and-left}
+use Rattle.booleans.proofs.Tests.{impossible}
 use Rattle.lane_rules.specs.declared.Said.{Said}
 use Rattle.lane_rules.specs.declared.Answer.{Answer}
 use Rattle.lane_rules.specs.Answers.{toldOf, isAccepted}
@@ -38,19 +38,19 @@ by-pairs P Said.Error f g h = h refl
 
 -- a yes is not a no
 pub yes-not-no : Said.Yes ≡ Said.No → ⊥
-yes-not-no e = let z : _≡_ {A = ℕ} 0 1 = cc in omega arith
+yes-not-no e = impossible (cc)
 
 -- a no is not a yes
 pub no-not-yes : Said.No ≡ Said.Yes → ⊥
-no-not-yes e = let z : _≡_ {A = ℕ} 0 1 = cc in omega arith
+no-not-yes e = impossible (cc)
 
 -- an error is not a yes
 pub error-not-yes : Said.Error ≡ Said.Yes → ⊥
-error-not-yes e = let z : _≡_ {A = ℕ} 0 1 = cc in omega arith
+error-not-yes e = impossible (cc)
 
 -- an error is not a no
 pub error-not-no : Said.Error ≡ Said.No → ⊥
-error-not-no e = let z : _≡_ {A = ℕ} 0 1 = cc in omega arith
+error-not-no e = impossible (cc)
 
 -- answers with different numbers are different
 pub other-number : {a b : Answer} → a ≡ b → (toldOf a .answer ≡ toldOf b .answer → ⊥) → ⊥
@@ -60,23 +60,23 @@ other-number e f = f (ap (λ (a : Answer). toldOf a .answer) e)
 pub refusal-not-accepted : (a : Answer) → isRefusal a ≡ true → isAccepted a ≡ false
 refusal-not-accepted a h =
     let number = toldOf a .answer in
-    let low = leb-true 20 number (and-left (leb 20 number) (leb number 23) h) in
+    let low = leb-true 20 number (and-elim-left (leb 20 number) (leb number 23) h) in
     ne-eqb number 0 (λ e. omega arith)
 
 -- a pass tells 1 where it says yes only
 pub yes-told : (s : Said) → bySaid s (Answer.Accepted 1) (Answer.Accepted 0) (Answer.Offset 0) ≡ Answer.Accepted 1 → s ≡ Said.Yes
 yes-told Said.Yes e = refl
-yes-told Said.No e = let z : _≡_ {A = ℕ} 0 1 = cc in absurd (omega arith)
-yes-told Said.Error e = let z : _≡_ {A = ℕ} 0 1 = cc in absurd (omega arith)
+yes-told Said.No e = impossible (cc)
+yes-told Said.Error e = impossible (cc)
 
 -- and 0 where it says no only
 pub no-told : (s : Said) → bySaid s (Answer.Accepted 1) (Answer.Accepted 0) (Answer.Offset 0) ≡ Answer.Accepted 0 → s ≡ Said.No
-no-told Said.Yes e = let z : _≡_ {A = ℕ} 0 1 = cc in absurd (omega arith)
+no-told Said.Yes e = impossible (cc)
 no-told Said.No e = refl
-no-told Said.Error e = let z : _≡_ {A = ℕ} 0 1 = cc in absurd (omega arith)
+no-told Said.Error e = impossible (cc)
 
 -- and is 24 where it says error only
 pub error-told : (s : Said) → bySaid s (Answer.Accepted 1) (Answer.Accepted 0) (Answer.Offset 0) ≡ Answer.Offset 0 → s ≡ Said.Error
-error-told Said.Yes e = let z : _≡_ {A = ℕ} 0 1 = cc in absurd (omega arith)
-error-told Said.No e = let z : _≡_ {A = ℕ} 0 1 = cc in absurd (omega arith)
+error-told Said.Yes e = impossible (cc)
+error-told Said.No e = impossible (cc)
 error-told Said.Error e = refl

@@ -5,9 +5,10 @@ use mathlib.Core.Path.{_≡_, refl, sym, ap}
 use mathlib.Core.List.{List}
 use mathlib.Core.Bool.{Bool, true, false, cond}
 use mathlib.Core.Logic.{_↔_}
-use lib.Dec.{eqb, ltb}
-use borrow.Author.Tests.{eqb-true, eqb-false, ltb-true, ltb-false}
+use lib.Dec.{eqb}
+use borrow.Author.Tests.{eqb-true, eqb-false}
 use Rattle.strips.specs.Strips.{byteAt}
+use Rattle.strips.proofs.Walk.{stretch-one, stretch-join}
 use Rattle.booleans.proofs.Tests.{by-cases, clash}
 use Rattle.masks.specs.Masks.{laneIn}
 use Rattle.lane_rules.specs.declared.View.{View}
@@ -40,7 +41,7 @@ module _ (strip : List ℕ) where
 
   -- one byte that is no error
   clean-one : (read : ℕ) → byteAt strip read ≤ 1 → Clean strip read (read + 1)
-  clean-one read h i k l = let e : i ≡ read = omega arith in rw e h
+  clean-one read h = stretch-one (λ i. byteAt strip i ≤ 1) read h
 
   -- one byte that is an error
   fault-one : (read : ℕ) → 1 < byteAt strip read → Fault strip read (read + 1)
@@ -50,11 +51,7 @@ module _ (strip : List ℕ) where
 
   -- two stretches with no error, one behind the other
   clean-then : (from via to : ℕ) → Clean strip from via → Clean strip via to → Clean strip from to
-  clean-then from via to p q i k l = go (ltb i via) refl
-    where
-      go : (b : Bool) → ltb i via ≡ b → byteAt strip i ≤ 1
-      go true e = p i k (ltb-true i via e)
-      go false e = q i (ltb-false i via e) l
+  clean-then = stretch-join (λ i. byteAt strip i ≤ 1)
 
   -- the second of them ends with an error
   fault-then : (from via to : ℕ) → from ≤ via → Clean strip from via → Fault strip via to → Fault strip from to

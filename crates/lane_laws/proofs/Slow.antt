@@ -21,8 +21,6 @@ use Rattle.lane_rules.specs.Rounds.{round, rounds, detaching}
 use Rattle.lane_rules.specs.Calls.{badHeight, badView, badStrip, detachChecks, ended, detachOf}
 use Rattle.lane_laws.specs.Ends.{NoErrors}
 use Rattle.lane_laws.specs.Slow.{slowStrip, slowView, AlwaysEnough}
-use Rattle.lane_laws.proofs.Sweep.{last-round}
-use Rattle.lane_laws.proofs.Exactly.{else-not-retired}
 use Rattle.lane_laws.proofs.Live.{accepted-had-rounds, more-rounds, no-errors-retire}
 
 -- the slow strip has as many bytes as it is asked for
@@ -129,23 +127,6 @@ pub slow-short : (n : ℕ) → n ≤ mostBytes → detachOf slowView (slowStrip 
 unfolding rounds
 slow-short n h =
     rw (slow-start n (n / 2 + 1) h, slow-rounds (slowStrip n) n 0 0 0 0 (from-start (slowStrip n)), zero-add (n / 2 + 1))
-
--- and it has not retired the node
-pub slow-not-retired : (n : ℕ) → n ≤ mostBytes → detachOf slowView (slowStrip n) (n / 2 + 1) .view .retired ≡ 0
-slow-not-retired n h = else-not-retired slowView (slowStrip n) (n / 2 + 1) (slow-passes n h) (rw (slow-short n h))
-
--- with one more it ends with a yes, in its last round
-pub slow-enough : (n : ℕ) → n ≤ mostBytes → detachOf slowView (slowStrip n) (n / 2 + 2) .answer ≡ Answer.Accepted (n / 2 + 2)
-unfolding rounds
-slow-enough n h =
-    let size = slow-length n in
-    let all : 0 + (n / 2 + 1) + 1 ≡ n / 2 + 2 = omega arith in
-    rw (
-      slow-start n (n / 2 + 2) h,
-      slow-rounds (slowStrip n) n 1 0 0 0 (from-start (slowStrip n)),
-      last-round (slowStrip n) 1 1 (0 + (n / 2 + 1) * 2) (omega arith),
-      all,
-    )
 
 -- two rounds more than half the strip's bytes are always enough
 pub half-enough : AlwaysEnough (λ bytes. bytes / 2 + 2)

@@ -1,7 +1,7 @@
 -- The numbers that an operator sees tell the answers apart, and the three kinds of answer exclude each other.
 use Prim.Native.Nat.{ℕ}
 use mathlib.Core.Path.{_≡_, refl, sym, ap, _∙_}
-use mathlib.Core.List.{List, [], _∷_}
+use mathlib.Core.List.{[], _∷_}
 use mathlib.Core.Bool.{true, false}
 use lib.ListN.{getD}
 use Rattle.rules.specs.declared.Answer.{Answer}

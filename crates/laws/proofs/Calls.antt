@@ -10,13 +10,13 @@ use lib.ListN.{length}
 use Rattle.rules.specs.declared.Head.{Head}
 use Rattle.rules.specs.declared.Answer.{Answer}
 use Rattle.rules.specs.declared.Verdict.{Verdict}
-use Rattle.rules.specs.Table.{capacity, postings, wellFormed}
+use Rattle.rules.specs.Table.{capacity, wellFormed}
 use Rattle.rules.specs.Answers.{isAccepted, poisons, settled}
 use Rattle.rules.specs.Checks.{prepareChecks, rollbackChecks, removalChecks, publishChecks, countChecks}
 use Rattle.rules.specs.Orders.{Call}
 use Rattle.rules.specs.Publication.{Stage, rolledBack, thenSources}
 use Rattle.rules.specs.Calls.{Outcome, asBefore, decided, headAfter, shown, prepared, prepareOf, rollbackOf, removalOf, publishOf, countOf}
-use Rattle.laws.specs.Words.{isUnchanged, Stable, AsBefore, StaysWellFormed, RefusesPoisoned}
+use Rattle.laws.specs.Words.{postingsBefore, isUnchanged, Stable, AsBefore, StaysWellFormed, RefusesPoisoned}
 use Rattle.booleans.proofs.Tests.{by-cases, clash}
 use Rattle.laws.proofs.Flat.{well-formed-parts, Sound, sound-postings, well-formed-laid-out, length-laid-out}
 use Rattle.laws.proofs.Undo.{undo-sound}
@@ -24,7 +24,7 @@ use Rattle.laws.proofs.Prepare.{prepare-sound}
 use Rattle.laws.proofs.Remove.{remove-sound}
 use Rattle.laws.proofs.Checks.{isProper, prepare-proper, rollback-proper, removal-proper, publish-proper, Clear, prepare-clear, publish-clear, rollback-formed, removal-formed, poisoned-first}
 use Rattle.laws.proofs.Answers.{refusal-unchanged, unchanged-poisons-not}
-use Rattle.laws.proofs.Outcomes.{shown-same, IsStopped, cause-poisons-not, start, going, leaving, recordedBack, undid, removedAlone, Published, published, Prepares, prepares, RollsBack, rolls-back, Removes, removes}
+use Rattle.laws.proofs.Outcomes.{shown-same, IsStopped, cause-poisons-not, going, leaving, recordedBack, undid, removedAlone, Published, published, Prepares, prepares, RollsBack, rolls-back, Removes, removes}
 
 -- an outcome as before has its own answer
 own-answer :
@@ -85,12 +85,12 @@ module _ (head : Head) (table : List ℕ) (c : Call) where
       go o (Removes.halted e r k) u = not-unchanged (o .answer) _ u (ap (λ (x : Outcome). x .answer) k ∙ r .answers) refl
 
   -- the postings that each call shows are sound
-  start-sound : wellFormed head table ≡ true → Sound (head .bindings) (capacity table) (start head table)
+  start-sound : wellFormed head table ≡ true → Sound (head .bindings) (capacity table) (postingsBefore head table)
   start-sound h = sound-postings head table (well-formed-parts head table h)
 
   prepared-sound : Clear head table c → Sound (head .bindings) (capacity table) (prepared head table c .postings)
   prepared-sound k =
-      prepare-sound (head .bindings) (capacity table) (c .strip) (going c) [] 0 (start head table) (k .bound) (start-sound (k .formed))
+      prepare-sound (head .bindings) (capacity table) (c .strip) (going c) [] 0 (postingsBefore head table) (k .bound) (start-sound (k .formed))
 
   prepare-shows :
       prepareChecks head table c ≡ Verdict.Passes → Sound (head .bindings) (capacity table) (prepared head table c .postings)
@@ -99,14 +99,14 @@ module _ (head : Head) (table : List ℕ) (c : Call) where
   rollback-shows :
       rollbackChecks head table c ≡ Verdict.Passes → Sound (head .bindings) (capacity table) (undid head table c .postings)
   rollback-shows e =
-      undo-sound (head .bindings) (capacity table) (c .strip) (recordedBack c) Verdict.Passes 0 (start head table)
+      undo-sound (head .bindings) (capacity table) (c .strip) (recordedBack c) Verdict.Passes 0 (postingsBefore head table)
       (start-sound (rollback-formed head table c e .0))
 
   removal-shows :
       removalChecks head table c ≡ Verdict.Passes →
       Sound (head .bindings) (capacity table) (removedAlone head table c .postings)
   removal-shows e =
-      remove-sound (c .strip) (Answer.Accepted 0) (head .bindings) (capacity table) (leaving c) 0 (start head table)
+      remove-sound (c .strip) (Answer.Accepted 0) (head .bindings) (capacity table) (leaving c) 0 (postingsBefore head table)
       (start-sound (removal-formed head table c e .0))
 
   publish-shows :

@@ -4,6 +4,7 @@ use native.Mathlib.Omega.{arith}
 use mathlib.Core.Path.{_≡_, refl, sym, _∙_}
 use mathlib.Core.List.{List, [], _∷_, _++_}
 use mathlib.Core.Bool.{Bool, true, false, not, _&&_, _||_, or-assoc}
+use mathlib.Mathlib.Data.Bool.Basic.{and-elim-left, and-intro}
 use lib.ListN.{length}
 use lib.Dec.{eqb, ltb, leb}
 use borrow.Author.Tests.{ne-eqb, eqb-true, leb-true, not-true}
@@ -20,15 +21,15 @@ use Rattle.rules.specs.Table.{postings, wellFormed}
 use Rattle.rules.specs.Orders.{Numbered, named, destinationOf, destinationsFrom, destinations, sources, postingsOf, properLists, Call, changesOf}
 use Rattle.rules.specs.Checks.{must, orElse, firstRefusal, tableCheck, poisonCheck, listCheck, stripCheck, roomCheck, heldKey, guarded, firstFailing, guardCheck, recordable, among, recordFrom, recordCheck, equalTo, twiceFrom, twiceCheck, presentCheck, overlapCheck, prepareChecks, rollbackChecks, removalChecks, publishChecks}
 use Rattle.laws.specs.Words.{isRefusal}
-use Rattle.booleans.proofs.Tests.{and-left, both, neither}
+use Rattle.booleans.proofs.Tests.{impossible, neither, or-swap}
 use Rattle.laws.proofs.Ranks.{same-turned}
-use Rattle.laws.proofs.Lists.{present-inserted, or-swap}
+use Rattle.laws.proofs.Lists.{present-inserted}
 use Rattle.laws.proofs.Prepare.{Fresh}
 
 -- verdicts
 pub must-holds : (b : Bool) (a : Answer) → must b a ≡ Verdict.Passes → b ≡ true
 must-holds true a h = refl
-must-holds false a h = let z : _≡_ {A = ℕ} 0 1 = cc in absurd (omega arith)
+must-holds false a h = impossible (cc)
 
 pub else-first : (v w : Verdict) → orElse v w ≡ Verdict.Passes → v ≡ Verdict.Passes
 else-first Verdict.Passes w h = refl
@@ -36,7 +37,7 @@ else-first (Verdict.Refused a) w h = h
 
 pub else-second : (v w : Verdict) → orElse v w ≡ Verdict.Passes → w ≡ Verdict.Passes
 else-second Verdict.Passes w h = h
-else-second (Verdict.Refused a) w h = let z : _≡_ {A = ℕ} 0 1 = cc in absurd (omega arith)
+else-second (Verdict.Refused a) w h = impossible (cc)
 
 pub first-passes : (v : Verdict) (vs : List Verdict) → firstRefusal (v ∷ vs) ≡ Verdict.Passes → v ≡ Verdict.Passes
 unfolding firstRefusal
@@ -204,12 +205,12 @@ guarded-within n gs i c ds h k = go (destinationOf c)
   where
     below : ltb (c .binding) n ≡ true
     below =
-        and-left (ltb (c .binding) n) (heldKey (c .binding) (c .before) gs)
-        (and-left (ltb (c .binding) n && heldKey (c .binding) (c .before) gs) (heldKey (c .binding) (c .after) gs) h)
+        and-elim-left (ltb (c .binding) n) (heldKey (c .binding) (c .before) gs)
+        (and-elim-left (ltb (c .binding) n && heldKey (c .binding) (c .before) gs) (heldKey (c .binding) (c .after) gs) h)
 
     go : (key : Key) → every (within n) (postingsOf (named i c key ds)) ≡ true
     go Key.Missing = k
-    go (Key.Named key) = both (ltb (c .binding) n) (every (within n) (postingsOf ds)) below k
+    go (Key.Named key) = and-intro below k
 
 destinations-within :
     (n : ℕ) (gs : List Guard) (answer : ℕ → Change → Answer) (i j : ℕ) (cs : List Change) →

@@ -5,6 +5,7 @@ use native.Mathlib.Omega.{arith}
 use mathlib.Core.Path.{_≡_, refl, ap}
 use mathlib.Core.List.{List, [], _∷_, _++_}
 use mathlib.Core.Bool.{Bool, true}
+use mathlib.Mathlib.Data.Bool.Basic.{and-elim-left, and-elim-right, and-intro}
 use lib.ListN.{length, take, drop, replicate, length-append, length-replicate, take-append-drop, length-drop}
 use lib.Seq.{take-append-seam, drop-at, length-take-le}
 use lib.Dec.{eqb}
@@ -14,7 +15,6 @@ use Rattle.rules.specs.declared.Head.{Head}
 use Rattle.rules.specs.Limits.{mostNumbers, mostBindings}
 use Rattle.rules.specs.Postings.{every, ascending, within}
 use Rattle.rules.specs.Table.{cells, capacity, postings, numbers, laidOut, allOf, limitsHold, wellFormed}
-use Rattle.booleans.proofs.Tests.{and-left, and-right, both}
 
 pub length-numbers : (ps : List Posting) → length (numbers ps) ≡ length ps * 3
 unfolding numbers
@@ -42,8 +42,8 @@ zeros : (l : List ℕ) → every (eqb 0) l ≡ true → l ≡ replicate (length 
 unfolding every
 zeros [] h = refl
 zeros (x ∷ xs) h =
-    let e : 0 ≡ x = eqb-true 0 x (and-left (eqb 0 x) (every (eqb 0) xs) h) in
-    let ih = zeros xs (and-right (eqb 0 x) (every (eqb 0) xs) h) in
+    let e : 0 ≡ x = eqb-true 0 x (and-elim-left (eqb 0 x) (every (eqb 0) xs) h) in
+    let ih = zeros xs (and-elim-right (eqb 0 x) (every (eqb 0) xs) h) in
     rw (← e) (ap (λ l. 0 ∷ l) ih)
 
 all-zero : (n : ℕ) → every (eqb 0) (replicate n 0) ≡ true
@@ -64,15 +64,15 @@ pub record WellFormed (head : Head) (table : List ℕ) : Type 0 where
 
 all-first : (b : Bool) (bs : List Bool) → allOf (b ∷ bs) ≡ true → b ≡ true
 unfolding allOf
-all-first b bs h = and-left b (allOf bs) h
+all-first b bs h = and-elim-left b (allOf bs) h
 
 all-rest : (b : Bool) (bs : List Bool) → allOf (b ∷ bs) ≡ true → allOf bs ≡ true
 unfolding allOf
-all-rest b bs h = and-right b (allOf bs) h
+all-rest b bs h = and-elim-right b (allOf bs) h
 
 all-cons : (b : Bool) (bs : List Bool) → b ≡ true → allOf bs ≡ true → allOf (b ∷ bs) ≡ true
 unfolding allOf
-all-cons b bs p q = both b (allOf bs) p q
+all-cons b bs p q = and-intro p q
 
 all-none : allOf [] ≡ true
 unfolding allOf

@@ -6,6 +6,7 @@ use mathlib.Core.Path.{_≡_, ap, _∙_}
 use mathlib.Core.List.{List, [], _∷_}
 use mathlib.Core.Bool.{Bool, true, false}
 use mathlib.Core.Logic.{_⊎_, inl, inr}
+use mathlib.Mathlib.Data.Bool.Basic.{and-elim-left, and-elim-right}
 use lib.ListN.{length, getD}
 use lib.Dec.{leb}
 use borrow.Author.Tests.{leb-true}
@@ -18,8 +19,7 @@ use Rattle.rules.specs.Orders.{Numbered, destinations, sources, postingsOf, num
 use Rattle.rules.specs.Checks.{twiceCheck, presentCheck, overlapCheck}
 use Rattle.laws.specs.Words.{nowhere, numberAt, rising}
 use Rattle.laws.specs.Names.{twins, FirstAt, NamesPair}
-use Rattle.booleans.proofs.Tests.{clash, and-left, and-right}
-use Rattle.laws.proofs.Ranks.{Tri, less, equal, more, tri}
+use Rattle.booleans.proofs.Tests.{Tri, less, equal, more, tri, clash}
 use Rattle.laws.proofs.Records.{rising-numbers, rising-sources}
 use Rattle.laws.proofs.Names.{twice-names, present-names, overlap-names}
 
@@ -27,10 +27,10 @@ use Rattle.laws.proofs.Names.{twice-names, present-names, overlap-names
 rising-bound : (low : ℕ) (ds : List Numbered) → rising low (numbersOf ds) ≡ true → (k : ℕ) → k < length ds → low ≤ numberAt ds k
 unfolding rising
 rising-bound low [] h k l = absurd (omega arith)
-rising-bound low (d ∷ ds) h zero l = leb-true low (d .number) (and-left (leb low (d .number)) (rising (d .number + 1) (numbersOf ds)) h)
+rising-bound low (d ∷ ds) h zero l = leb-true low (d .number) (and-elim-left (leb low (d .number)) (rising (d .number + 1) (numbersOf ds)) h)
 rising-bound low (d ∷ ds) h (suc k) l =
-    let b = leb-true low (d .number) (and-left (leb low (d .number)) (rising (d .number + 1) (numbersOf ds)) h) in
-    let n = rising-bound (d .number + 1) ds (and-right (leb low (d .number)) (rising (d .number + 1) (numbersOf ds)) h) k (omega arith) in
+    let b = leb-true low (d .number) (and-elim-left (leb low (d .number)) (rising (d .number + 1) (numbersOf ds)) h) in
+    let n = rising-bound (d .number + 1) ds (and-elim-right (leb low (d .number)) (rising (d .number + 1) (numbersOf ds)) h) k (omega arith) in
     omega arith
 
 -- a later place has a greater number
@@ -40,10 +40,10 @@ unfolding rising
 rising-places low [] h i j k l = absurd (omega arith)
 rising-places low (d ∷ ds) h i zero k l = absurd (omega arith)
 rising-places low (d ∷ ds) h zero (suc j) k l =
-    let n = rising-bound (d .number + 1) ds (and-right (leb low (d .number)) (rising (d .number + 1) (numbersOf ds)) h) j (omega arith) in
+    let n = rising-bound (d .number + 1) ds (and-elim-right (leb low (d .number)) (rising (d .number + 1) (numbersOf ds)) h) j (omega arith) in
     omega arith
 rising-places low (d ∷ ds) h (suc i) (suc j) k l =
-    rising-places (d .number + 1) ds (and-right (leb low (d .number)) (rising (d .number + 1) (numbersOf ds)) h) i j (omega arith) (omega arith)
+    rising-places (d .number + 1) ds (and-elim-right (leb low (d .number)) (rising (d .number + 1) (numbersOf ds)) h) i j (omega arith) (omega arith)
 
 -- so the first place that fails has the least number of all that fail
 first-least :

@@ -3,27 +3,14 @@ use Prim.Native.Nat.{suc, _≤_}
 use native.Mathlib.Omega.{arith}
 use mathlib.Core.Path.{_≡_, refl, sym, ap, _∙_}
 use mathlib.Core.List.{List, [], _∷_}
-use mathlib.Core.Bool.{Bool, true, false, cond, not, _&&_, _||_}
+use mathlib.Core.Bool.{Bool, true, false, cond, not, _&&_, _||_, or-self-left}
+use mathlib.Mathlib.Data.Bool.Basic.{eq-false-of-not-eq-true}
 use lib.ListN.{length}
 use Rattle.rules.specs.declared.Posting.{Posting}
 use Rattle.rules.specs.declared.Order.{Order}
 use Rattle.rules.specs.Postings.{compared, isSame, same, present, placed, inserted, removed}
-use Rattle.booleans.proofs.Tests.{clash, or-left, or-right, by-cases}
+use Rattle.booleans.proofs.Tests.{by-cases, clash, or-left, or-right, or-swap}
 use Rattle.laws.proofs.Ranks.{compared-same, same-equal, same-self}
-
-or-twice : (a b : Bool) → (a || b) ≡ (a || (a || b))
-or-twice true b = refl
-or-twice false b = refl
-
-pub or-swap : (a b c : Bool) → (a || (b || c)) ≡ (b || (a || c))
-or-swap true true c = refl
-or-swap true false c = refl
-or-swap false true c = refl
-or-swap false false c = refl
-
-apart : (b : Bool) → (b ≡ true → ⊥) → b ≡ false
-apart true f = absurd (f refl)
-apart false f = refl
 
 -- what stands in a list after an insertion
 pub present-inserted : (p q : Posting) (l : List Posting) → present p (inserted q l) ≡ (same p q || present p l)
@@ -37,7 +24,7 @@ present-inserted p q (x ∷ xs) = go (compared q x) refl (present-inserted p q x
     go Order.Before e ih = refl
     go Order.Same e ih =
         let k : same p q ≡ same p x = ap (same p) (compared-same q x e) in
-        rw k (or-twice (same p x) (present p xs))
+        rw k (sym (or-self-left (same p x) (present p xs)))
     go Order.After e ih = rw ih (or-swap (same p x) (same p q) (present p xs))
 
 not-twice : (a b : Bool) → (b && not a) ≡ ((a || b) && not a)
@@ -65,12 +52,12 @@ present-removed p q (x ∷ xs) = go (same q x) refl (present-removed p q xs)
     go false e ih =
         rw ih
         (and-or (same p x) (present p xs) (same p q) λ h.
-        apart (same p q) λ k.
+        eq-false-of-not-eq-true λ k.
         clash (same q x) (rw (sym (same-equal p q k) ∙ same-equal p x h) (same-self x)) e)
 
 -- what stands in a list differs from what doesn't
 pub differs : (p q : Posting) (l : List Posting) → present p l ≡ true → present q l ≡ false → same p q ≡ false
-differs p q l h k = apart (same p q) λ e. clash (present q l) (rw (same-equal p q e) at h) k
+differs p q l h k = eq-false-of-not-eq-true λ e. clash (present q l) (rw (same-equal p q e) at h) k
 
 pub removed-absent : (p : Posting) (l : List Posting) → present p l ≡ false → removed p l ≡ l
 unfolding present removed

@@ -6,6 +6,7 @@ use mathlib.Core.Path.{_≡_, refl, sym, ap, _∙_}
 use mathlib.Core.List.{List, [], _∷_, _++_}
 use mathlib.Core.Bool.{Bool, true, false, not, _&&_, _||_, or-true}
 use mathlib.Core.Logic.{_⊎_, inl, inr}
+use mathlib.Mathlib.Data.Bool.Basic.{and-elim-left, and-elim-right}
 use lib.ListN.{length, getD, length-append, List·getD-append}
 use lib.Seq.{getD-append-seam, append-snoc}
 use lib.Dec.{eqb}
@@ -21,8 +22,7 @@ use Rattle.rules.specs.Orders.{Numbered, guards, held, destinations, sources, p
 use Rattle.rules.specs.Checks.{must, orElse, firstRefusal, firstFailing, guarded, guardCheck, recordable, among, recordFrom, recordCheck, equalTo, twiceFrom, twiceCheck, presentCheck, overlapCheck}
 use Rattle.laws.specs.Words.{nowhere, numberAt}
 use Rattle.laws.specs.Names.{noGuard, FirstAt, NamesFirst, Apart, twins, FirstPair, NamesPair, Repeated, FirstBad, NamesBad, Holder, RefusedAt}
-use Rattle.booleans.proofs.Tests.{clash, and-left, and-right, or-left, or-right}
-use Rattle.laws.proofs.Lists.{or-swap}
+use Rattle.booleans.proofs.Tests.{impossible, clash, or-left, or-right, or-swap}
 use Rattle.laws.proofs.Checks.{failing-first, failing-rest}
 
 -- where none fails
@@ -39,7 +39,7 @@ pub failing-names :
     {A : Type 0} (none : A) (test : A → Bool) (answer : ℕ → A → Answer) (i : ℕ) (xs : List A) (a : Answer) →
     firstFailing test answer i xs ≡ Verdict.Refused a → NamesFirst none test answer i xs a
 unfolding firstFailing
-failing-names none test answer i [] a h = let z : _≡_ {A = ℕ} 0 1 = cc in absurd (omega arith)
+failing-names none test answer i [] a h = impossible (cc)
 failing-names none test answer i (x ∷ xs) a h = go (test x) refl (failing-names none test answer (i + 1) xs a) h
   where
     refused : {v w : Answer} → Verdict.Refused v ≡ Verdict.Refused w → v ≡ w
@@ -180,7 +180,7 @@ twice-from :
 unfolding twiceFrom
 twice-from all earlier [] e f = (
   (λ h. let n : length all ≡ length earlier = ap length e ∙ (length-append earlier [] ∙ omega arith) in rw n f),
-  (λ a h. let z : _≡_ {A = ℕ} 0 1 = cc in absurd (omega arith)),
+  (λ a h. impossible (cc)),
 )
 twice-from all earlier (d ∷ ds) e f =
     go (equalTo d earlier) refl
@@ -192,7 +192,7 @@ twice-from all earlier (d ∷ ds) e f =
         (orElse v (twiceFrom (earlier ++ d ∷ []) ds) ≡ Verdict.Passes → Apart all (length all)) × ((a : Answer) → orElse v (twiceFrom (earlier ++ d ∷ []) ds) ≡ Verdict.Refused a → NamesPair all a)
     go Verdict.Passes h ih = ih h
     go (Verdict.Refused b) h ih = (
-      (λ k. let z : _≡_ {A = ℕ} 0 1 = cc in absurd (omega arith)),
+      (λ k. impossible (cc)),
       (λ a k.
           let p = pair-here all earlier d ds e a f (h ∙ k) in
           record { i = p .0; j = length earlier; first = p .1; names = p .2 }),
@@ -293,14 +293,14 @@ record-from :
 unfolding recordFrom
 record-from cs all pre [] earlier e f g = (
   (λ h. let n : length all ≡ length pre = ap length e ∙ (length-append pre [] ∙ omega arith) in rw n g),
-  (λ a h. let z : _≡_ {A = ℕ} 0 1 = cc in absurd (omega arith)),
+  (λ a h. impossible (cc)),
 )
 record-from cs all pre (n ∷ ns) earlier e f g =
     go (recordable cs n && not (among n earlier)) refl
     (λ h.
     rw (length-append pre (n ∷ [])) at
     (record-from cs all (pre ++ n ∷ []) ns (n ∷ earlier) (numbers-further cs all pre n ns earlier e f) (tally cs all pre n ns earlier e f)
-    (fine-more cs all pre n ns earlier e f g (and-left (recordable cs n) (not (among n earlier)) h) (not-true (among n earlier) (and-right (recordable cs n) (not (among n earlier)) h)))))
+    (fine-more cs all pre n ns earlier e f g (and-elim-left (recordable cs n) (not (among n earlier)) h) (not-true (among n earlier) (and-elim-right (recordable cs n) (not (among n earlier)) h)))))
   where
     Both : Verdict → Type 0
     Both v = (v ≡ Verdict.Passes → AllFine cs all (length all)) × ((a : Answer) → v ≡ Verdict.Refused a → NamesBad cs all a)
@@ -311,7 +311,7 @@ record-from cs all pre (n ∷ ns) earlier e f g =
         Both (orElse (must b (Answer.Record (length pre))) (recordFrom (length pre + 1) cs (n ∷ earlier) ns))
     go true h ih = ih h
     go false h ih = (
-      (λ k. let z : _≡_ {A = ℕ} 0 1 = cc in absurd (omega arith)),
+      (λ k. impossible (cc)),
       (λ a k. record { at = length pre; first = bad-here cs all pre n ns earlier e f g h; names = same-refusal k }),
     )
       where
@@ -348,8 +348,8 @@ held-at binding key (g ∷ gs) h = go (eqb binding (g .binding) && eqb key (g .k
         record {
           at = 0;
           there = omega arith;
-          bindings = sym (eqb-true binding (g .binding) (and-left (eqb binding (g .binding)) (eqb key (g .key)) e));
-          keys = sym (eqb-true key (g .key) (and-right (eqb binding (g .binding)) (eqb key (g .key)) e));
+          bindings = sym (eqb-true binding (g .binding) (and-elim-left (eqb binding (g .binding)) (eqb key (g .key)) e));
+          keys = sym (eqb-true key (g .key) (and-elim-right (eqb binding (g .binding)) (eqb key (g .key)) e));
         }
     go false e ih k =
         let r = ih k in
@@ -366,7 +366,7 @@ at-held binding key (g ∷ gs) (suc i) l b k = rw (at-held binding key gs i (ome
 -- of a list of checks the first that refuses gives the answer
 pub refused-at : (vs : List Verdict) (a : Answer) → firstRefusal vs ≡ Verdict.Refused a → RefusedAt vs a
 unfolding firstRefusal
-refused-at [] a h = let z : _≡_ {A = ℕ} 0 1 = cc in absurd (omega arith)
+refused-at [] a h = impossible (cc)
 refused-at (v ∷ vs) a h = go v (refused-at vs a) h
   where
     go :

@@ -7,7 +7,6 @@ use mathlib.Core.Bool.{true, false, cond}
 use mathlib.Core.Logic.{_⊎_, ⊎-elim}
 use lib.ListN.{length}
 use Rattle.lent_lists.specs.Written.{written}
-use Rattle.rules.specs.declared.Posting.{Posting}
 use Rattle.rules.specs.declared.Head.{Head}
 use Rattle.rules.specs.declared.Answer.{Answer}
 use Rattle.rules.specs.declared.Verdict.{Verdict}
@@ -17,7 +16,7 @@ use Rattle.rules.specs.Answers.{isAccepted, poisons}
 use Rattle.rules.specs.Checks.{prepareChecks, rollbackChecks, removalChecks, publishChecks}
 use Rattle.rules.specs.Publication.{Undone, undoing, Stage, removing, rolledBack, thenSources}
 use Rattle.rules.specs.Calls.{headWith, Outcome, asBefore, decided, shown, recordAfter, prepared, prepareOf, rollbackOf, removalOf, publishOf}
-use Rattle.laws.specs.Words.{added, takenAway}
+use Rattle.laws.specs.Words.{postingsBefore, added, takenAway}
 use Rattle.laws.proofs.Flat.{well-formed-parts, used-postings, laid-out-same}
 use Rattle.laws.proofs.Undo.{UndoClean, UndoFailed, undo-runs}
 use Rattle.laws.proofs.Prepare.{Ready, Cause, store, full, Stopped, prepare-runs}
@@ -43,10 +42,7 @@ pub cause-accepts-not : (byte used size change : ℕ) (why : Answer) → Cause b
 cause-accepts-not byte used size change why (store h) = refl
 cause-accepts-not byte used size change why (full h k) = refl
 
--- the postings at the start of a call, and what its changes bring, take and, by its record, take back
-abbrev pub start : Head → List ℕ → List Posting
-start head table = postings (head .used) table
-
+-- what the changes of a call bring, take and, by its record, take back
 abbrev pub going : Call → List Numbered
 going c = destinations (changesOf c)
 
@@ -60,27 +56,27 @@ recordedBack c = reverse (recorded (changesOf c) (c .recordList))
 module _ (head : Head) (table : List ℕ) (c : Call) where
   -- prepare has inserted every destination, or has stopped at one
   abbrev pub IsReady : Type 0
-  IsReady = Ready (capacity table) (c .strip) (going c) [] 0 (start head table) (prepared head table c)
+  IsReady = Ready (capacity table) (c .strip) (going c) [] 0 (postingsBefore head table) (prepared head table c)
 
   abbrev pub IsStopped : Type 0
-  IsStopped = Stopped (capacity table) (c .strip) (start head table) (going c) 0 0 (length (start head table)) (prepared head table c)
+  IsStopped = Stopped (capacity table) (c .strip) (postingsBefore head table) (going c) 0 0 (length (postingsBefore head table)) (prepared head table c)
 
   -- what an accepted publish answers and leaves
   abbrev pub accepted : Outcome
   accepted =
       shown head table (written (numbersOf (going c)) (c .recordList))
-      (record { answer = Answer.Accepted (length (going c)); postings = takenAway (leaving c) (added (going c) (start head table)); read = 0 })
+      (record { answer = Answer.Accepted (length (going c)); postings = takenAway (leaving c) (added (going c) (postingsBefore head table)); read = 0 })
 
   -- its source removal
   abbrev pub sourcesGone : Stage
-  sourcesGone = removing (c .strip) (Answer.Accepted (length (going c))) (leaving c) (length (going c)) (added (going c) (start head table))
+  sourcesGone = removing (c .strip) (Answer.Accepted (length (going c))) (leaving c) (length (going c)) (added (going c) (postingsBefore head table))
 
   pub data Published (o : Outcome) : Type 0 where
     refused :
         (a : Answer) → publishChecks head table c ≡ Verdict.Refused a → o ≡ asBefore head table (c .recordList) a → Published o
     taken :
         publishChecks head table c ≡ Verdict.Passes → IsReady →
-        Cleared (c .strip) (Answer.Accepted (length (going c))) (leaving c) (length (going c)) (added (going c) (start head table)) sourcesGone →
+        Cleared (c .strip) (Answer.Accepted (length (going c))) (leaving c) (length (going c)) (added (going c) (postingsBefore head table)) sourcesGone →
         o ≡ accepted → Published o
     halted :
         publishChecks head table c ≡ Verdict.Passes → IsReady → Halted (c .strip) (leaving c) (length (going c)) sourcesGone →
@@ -95,7 +91,7 @@ module _ (head : Head) (table : List ℕ) (c : Call) where
       let w = well-formed-parts head table (k .formed) in
       let u = used-postings head table w in
       let r = w .room in
-      prepare-runs (capacity table) (c .strip) (start head table) (going c) [] 0 (start head table) (k .fresh) refl (omega arith)
+      prepare-runs (capacity table) (c .strip) (postingsBefore head table) (going c) [] 0 (postingsBefore head table) (k .fresh) refl (omega arith)
 
   pub stop-not-accepted : IsStopped → isAccepted (prepared head table c .answer) ≡ false
   stop-not-accepted s =
@@ -112,8 +108,8 @@ module _ (head : Head) (table : List ℕ) (c : Call) where
 
   cleared-accepted :
       (list : List ℕ) →
-      Cleared (c .strip) (Answer.Accepted (length (going c))) (leaving c) (length (going c)) (added (going c) (start head table)) sourcesGone →
-      shown head table list sourcesGone ≡ shown head table list (record { answer = Answer.Accepted (length (going c)); postings = takenAway (leaving c) (added (going c) (start head table)); read = 0 })
+      Cleared (c .strip) (Answer.Accepted (length (going c))) (leaving c) (length (going c)) (added (going c) (postingsBefore head table)) sourcesGone →
+      shown head table list sourcesGone ≡ shown head table list (record { answer = Answer.Accepted (length (going c)); postings = takenAway (leaving c) (added (going c) (postingsBefore head table)); read = 0 })
   cleared-accepted list k = rw (k .answers, k .leaves)
 
   pub published : Published (publishOf head table c)
@@ -132,7 +128,7 @@ module _ (head : Head) (table : List ℕ) (c : Call) where
           ready r =
               rw (ready-sources r, ready-record r)
               (⊎-elim (λ k. Published.taken e r k (cleared-accepted (written (numbersOf (going c)) (c .recordList)) k)) (λ k. Published.halted e r k refl)
-              (remove-runs (c .strip) (Answer.Accepted (length (going c))) (leaving c) (length (going c)) (added (going c) (start head table))))
+              (remove-runs (c .strip) (Answer.Accepted (length (going c))) (leaving c) (length (going c)) (added (going c) (postingsBefore head table))))
 
           stop :
               IsStopped →
@@ -162,13 +158,13 @@ module _ (head : Head) (table : List ℕ) (c : Call) where
 
   -- rollback's run over its record
   abbrev pub undid : Undone
-  undid = undoing (c .strip) (recordedBack c) Verdict.Passes 0 (start head table)
+  undid = undoing (c .strip) (recordedBack c) Verdict.Passes 0 (postingsBefore head table)
 
   pub data RollsBack (o : Outcome) : Type 0 where
     refused :
         (a : Answer) → rollbackChecks head table c ≡ Verdict.Refused a → o ≡ asBefore head table (c .recordList) a → RollsBack o
     clean :
-        rollbackChecks head table c ≡ Verdict.Passes → UndoClean (c .strip) (recordedBack c) Verdict.Passes 0 (start head table) undid →
+        rollbackChecks head table c ≡ Verdict.Passes → UndoClean (c .strip) (recordedBack c) Verdict.Passes 0 (postingsBefore head table) undid →
         o ≡ shown head table (c .recordList) (rolledBack undid) → RollsBack o
     failed :
         rollbackChecks head table c ≡ Verdict.Passes → UndoFailed (c .strip) (recordedBack c) 0 undid →
@@ -183,17 +179,17 @@ module _ (head : Head) (table : List ℕ) (c : Call) where
           RollsBack (decided v (asBefore head table (c .recordList)) (shown head table (c .recordList) (rolledBack undid)))
       go (Verdict.Refused a) e = RollsBack.refused a e refl
       go Verdict.Passes e =
-          ⊎-elim (λ k. RollsBack.clean e k refl) (λ k. RollsBack.failed e k refl) (undo-runs (c .strip) (recordedBack c) Verdict.Passes 0 (start head table))
+          ⊎-elim (λ k. RollsBack.clean e k refl) (λ k. RollsBack.failed e k refl) (undo-runs (c .strip) (recordedBack c) Verdict.Passes 0 (postingsBefore head table))
 
   -- source removal alone
   abbrev pub removedAlone : Stage
-  removedAlone = removing (c .strip) (Answer.Accepted 0) (leaving c) 0 (start head table)
+  removedAlone = removing (c .strip) (Answer.Accepted 0) (leaving c) 0 (postingsBefore head table)
 
   pub data Removes (o : Outcome) : Type 0 where
     refused :
         (a : Answer) → removalChecks head table c ≡ Verdict.Refused a → o ≡ asBefore head table (c .recordList) a → Removes o
     cleared :
-        removalChecks head table c ≡ Verdict.Passes → Cleared (c .strip) (Answer.Accepted 0) (leaving c) 0 (start head table) removedAlone →
+        removalChecks head table c ≡ Verdict.Passes → Cleared (c .strip) (Answer.Accepted 0) (leaving c) 0 (postingsBefore head table) removedAlone →
         o ≡ shown head table (c .recordList) removedAlone → Removes o
     halted :
         removalChecks head table c ≡ Verdict.Passes → Halted (c .strip) (leaving c) 0 removedAlone →
@@ -208,4 +204,4 @@ module _ (head : Head) (table : List ℕ) (c : Call) where
           Removes (decided v (asBefore head table (c .recordList)) (shown head table (c .recordList) removedAlone))
       go (Verdict.Refused a) e = Removes.refused a e refl
       go Verdict.Passes e =
-          ⊎-elim (λ k. Removes.cleared e k refl) (λ k. Removes.halted e k refl) (remove-runs (c .strip) (Answer.Accepted 0) (leaving c) 0 (start head table))
+          ⊎-elim (λ k. Removes.cleared e k refl) (λ k. Removes.halted e k refl) (remove-runs (c .strip) (Answer.Accepted 0) (leaving c) 0 (postingsBefore head table))

@@ -4,8 +4,9 @@ use Prim.Native.Nat.{ℕ, suc, _+_, _≤_, _<_}
 use native.Mathlib.Omega.{arith}
 use mathlib.Core.Path.{_≡_, refl, sym, ap, _∙_}
 use mathlib.Core.List.{List, [], _∷_}
-use mathlib.Core.Bool.{Bool, true, false, _||_, or-assoc}
+use mathlib.Core.Bool.{true, false, _||_, or-assoc}
 use mathlib.Core.Logic.{_⊎_, inl, inr, ⊎-elim}
+use mathlib.Mathlib.Data.Bool.Basic.{and-elim-left, and-elim-right}
 use lib.ListN.{length}
 use lib.Dec.{ltb}
 use borrow.Author.Tests.{ltb-true, ltb-false}
@@ -17,8 +18,8 @@ use Rattle.rules.specs.Postings.{every, within, same, present, inserted}
 use Rattle.rules.specs.Orders.{Numbered, postingsOf}
 use Rattle.rules.specs.Publication.{undoing, Stage, whyNot, notInserted, preparing}
 use Rattle.laws.specs.Words.{added, numberAt, Quiet, Noisy}
-use Rattle.booleans.proofs.Tests.{either, and-left, and-right}
-use Rattle.laws.proofs.Lists.{or-swap, present-inserted, length-inserted}
+use Rattle.booleans.proofs.Tests.{either, or-swap}
+use Rattle.laws.proofs.Lists.{present-inserted, length-inserted}
 use Rattle.laws.proofs.Flat.{Sound}
 use Rattle.laws.proofs.Steps.{preparing-clear, preparing-full, preparing-store, sound-inserted}
 use Rattle.laws.proofs.Undo.{byte-is, quiet-cons, quiet-none, UndoClean, UndoFailed, undo-runs, undo-removes, undo-sound, Put, put-back, put-other}
@@ -199,15 +200,12 @@ prepare-step P capacity strip d ds done read ps next back = go (byte-is (byteAt 
         rw (preparing-full strip d ds read ps capacity done b (ltb-false (length ps) capacity l)) (back (Answer.Full (d .number)))
     go (inr b) l = rw (preparing-store strip d ds read ps capacity done b) (back (Answer.Store (d .number)))
 
-either-left : (a b : Bool) → a ≡ true → (a || b) ≡ true
-either-left a b h = rw h
-
 -- whatever the strip, nothing comes in but destinations
 pub prepare-inside :
     (capacity : ℕ) (strip : List ℕ) (ds done : List Numbered) (read : ℕ) (ps : List Posting) (p : Posting) →
     present p (preparing capacity strip ds done read ps .postings) ≡ true → (present p ps || present p (postingsOf ds)) ≡ true
 unfolding preparing present
-prepare-inside capacity strip [] done read ps p h = either-left (present p ps) false h
+prepare-inside capacity strip [] done read ps p h = rw h
 prepare-inside capacity strip (d ∷ ds) done read ps p h =
     prepare-step (λ (s : Stage). present p (s .postings) ≡ true → (present p ps || (same p (d .posting) || present p (postingsOf ds))) ≡ true) capacity strip d ds done read ps
     (λ l k.
@@ -215,7 +213,7 @@ prepare-inside capacity strip (d ∷ ds) done read ps p h =
     ∙ (sym (or-assoc (same p (d .posting)) (present p ps) (present p (postingsOf ds)))
     ∙ (ap (λ b. b || present p (postingsOf ds)) (sym (present-inserted p (d .posting) ps))
     ∙ prepare-inside capacity strip ds (d ∷ done) (read + 1) (inserted (d .posting) ps) p k)))
-    (λ why k. either-left (present p ps) _ (undo-removes strip done Verdict.Passes (read + 1) ps .inside p k))
+    (λ why k. rw (undo-removes strip done Verdict.Passes (read + 1) ps .inside p k))
     h
 
 -- and sound postings stay sound
@@ -229,6 +227,6 @@ prepare-sound n capacity strip (d ∷ ds) done read ps h s =
     prepare-step (λ (t : Stage). Sound n capacity (t .postings)) capacity strip d ds done read ps
     (λ l.
     prepare-sound n capacity strip ds (d ∷ done) (read + 1) (inserted (d .posting) ps)
-    (and-right (within n (d .posting)) (every (within n) (postingsOf ds)) h)
-    (sound-inserted n capacity (d .posting) ps (and-left (within n (d .posting)) (every (within n) (postingsOf ds)) h) l s))
+    (and-elim-right (within n (d .posting)) (every (within n) (postingsOf ds)) h)
+    (sound-inserted n capacity (d .posting) ps (and-elim-left (within n (d .posting)) (every (within n) (postingsOf ds)) h) l s))
     (λ why. undo-sound n capacity strip done Verdict.Passes (read + 1) ps s)

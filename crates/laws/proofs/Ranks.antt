@@ -2,29 +2,13 @@
 use Prim.Native.Nat.{ℕ, _<_}
 use native.Mathlib.Omega.{arith}
 use mathlib.Core.Path.{_≡_, refl, sym, ap, _∙_}
-use mathlib.Core.Bool.{Bool, true, false}
+use mathlib.Core.Bool.{true, false}
 use lib.Dec.{ltb}
-use borrow.Author.Tests.{lt-ltb, le-ltb, ltb-true, ltb-false}
+use borrow.Author.Tests.{lt-ltb, le-ltb}
 use Rattle.rules.specs.declared.Posting.{Posting}
 use Rattle.rules.specs.declared.Order.{Order}
 use Rattle.rules.specs.Postings.{ranked, compared, isBefore, isSame, same}
-use Rattle.booleans.proofs.Tests.{equal-tests}
-
-pub data Tri (a b : ℕ) : Type 0 where
-  less : a < b → Tri a b
-  equal : a ≡ b → Tri a b
-  more : b < a → Tri a b
-
-pub tri : (a b : ℕ) → Tri a b
-tri a b = go (ltb a b) refl (ltb b a) refl
-  where
-    go : (x : Bool) → ltb a b ≡ x → (y : Bool) → ltb b a ≡ y → Tri a b
-    go true p y q = less (ltb-true a b p)
-    go false p true q = more (ltb-true b a q)
-    go false p false q =
-        let h = ltb-false a b p in
-        let k = ltb-false b a q in
-        equal (omega arith)
+use Rattle.booleans.proofs.Tests.{impossible, Tri, less, equal, more, tri, equal-tests}
 
 pub ranked-less : (a b : ℕ) (next : Order) → a < b → ranked a b next ≡ Order.Before
 unfolding ranked
@@ -48,9 +32,9 @@ pub ranked-same : (a b : ℕ) (next : Order) → ranked a b next ≡ Order.Same 
 ranked-same a b next h = go (tri a b)
   where
     go : Tri a b → (a ≡ b) × (next ≡ Order.Same)
-    go (less l) = let z : _≡_ {A = ℕ} 0 1 = cc (ranked-less a b next l) in absurd (omega arith)
+    go (less l) = impossible (cc (ranked-less a b next l))
     go (equal e) = (e, sym (ranked-equal a b next e) ∙ h)
-    go (more m) = let z : _≡_ {A = ℕ} 0 1 = cc (ranked-more a b next m) in absurd (omega arith)
+    go (more m) = impossible (cc (ranked-more a b next m))
 
 pub turned : Order → Order
 turned Order.Before = Order.After
@@ -74,12 +58,12 @@ ranked-before a b c m n k h j f = go (tri a b) (tri b c)
     go : Tri a b → Tri b c → ranked a c k ≡ Order.Before
     go (less p) (less q) = ranked-less a c k (omega arith)
     go (less p) (equal q) = ranked-less a c k (omega arith)
-    go (less p) (more q) = let z : _≡_ {A = ℕ} 0 1 = cc (ranked-more b c n q) in absurd (omega arith)
+    go (less p) (more q) = impossible (cc (ranked-more b c n q))
     go (equal p) (less q) = ranked-less a c k (omega arith)
     go (equal p) (equal q) =
         ranked-equal a c k (p ∙ q) ∙ f (sym (ranked-equal a b m p) ∙ h) (sym (ranked-equal b c n q) ∙ j)
-    go (equal p) (more q) = let z : _≡_ {A = ℕ} 0 1 = cc (ranked-more b c n q) in absurd (omega arith)
-    go (more p) t = let z : _≡_ {A = ℕ} 0 1 = cc (ranked-more a b m p) in absurd (omega arith)
+    go (equal p) (more q) = impossible (cc (ranked-more b c n q))
+    go (more p) t = impossible (cc (ranked-more a b m p))
 
 pub compared-self : (p : Posting) → compared p p ≡ Order.Same
 unfolding compared
@@ -118,13 +102,13 @@ before-before p q r h k =
 
 pub is-before : (o : Order) → isBefore o ≡ true → o ≡ Order.Before
 is-before Order.Before h = refl
-is-before Order.Same h = let z : _≡_ {A = ℕ} 0 1 = cc in absurd (omega arith)
-is-before Order.After h = let z : _≡_ {A = ℕ} 0 1 = cc in absurd (omega arith)
+is-before Order.Same h = impossible (cc)
+is-before Order.After h = impossible (cc)
 
 is-same : (o : Order) → isSame o ≡ true → o ≡ Order.Same
-is-same Order.Before h = let z : _≡_ {A = ℕ} 0 1 = cc in absurd (omega arith)
+is-same Order.Before h = impossible (cc)
 is-same Order.Same h = refl
-is-same Order.After h = let z : _≡_ {A = ℕ} 0 1 = cc in absurd (omega arith)
+is-same Order.After h = impossible (cc)
 
 pub same-equal : (p q : Posting) → same p q ≡ true → p ≡ q
 unfolding same

@@ -5,6 +5,7 @@ use native.Mathlib.Omega.{arith}
 use mathlib.Core.Path.{_≡_, refl, sym, ap, _∙_}
 use mathlib.Core.List.{List, [], _∷_, reverseAux, reverse}
 use mathlib.Core.Bool.{true, false, _||_, or-true, or-false, or-assoc}
+use mathlib.Mathlib.Data.Bool.Basic.{and-elim-left, and-elim-right, and-intro}
 use lib.ListN.{length, getD}
 use lib.Dec.{eqb, leb, leb·suc-suc}
 use borrow.Author.Tests.{leb-true, eq-eqb, ne-eqb, lt-ltb, le-leb, le-ltb}
@@ -16,8 +17,7 @@ use Rattle.rules.specs.Postings.{same, present, inserted}
 use Rattle.rules.specs.Orders.{Numbered, named, destinationOf, sourceOf, destinationsFrom, sourcesFrom, destinations, sources, numbersOf, postingsOf, noChange, recorded}
 use Rattle.rules.specs.Checks.{isNamed, recordable, among, recordFrom}
 use Rattle.laws.specs.Words.{added, takenAway, rising}
-use Rattle.booleans.proofs.Tests.{and-left, and-right, both, neither}
-use Rattle.laws.proofs.Lists.{or-swap}
+use Rattle.booleans.proofs.Tests.{neither, or-swap}
 use Rattle.laws.proofs.Undo.{Put, put-back}
 use Rattle.laws.proofs.Prepare.{Fresh}
 
@@ -64,15 +64,15 @@ rising-later : (low high : ℕ) (ns : List ℕ) → low ≤ high → rising high
 unfolding rising
 rising-later low high [] h r = refl
 rising-later low high (n ∷ ns) h r =
-    let k = leb-true high n (and-left (leb high n) (rising (n + 1) ns) r) in
-    both (leb low n) (rising (n + 1) ns) (le-leb low n (omega arith)) (and-right (leb high n) (rising (n + 1) ns) r)
+    let k = leb-true high n (and-elim-left (leb high n) (rising (n + 1) ns) r) in
+    and-intro (le-leb low n (omega arith)) (and-elim-right (leb high n) (rising (n + 1) ns) r)
 
 rising-named :
     (i : ℕ) (c : Change) (k : Key) (others : List Numbered) → rising (i + 1) (numbersOf others) ≡ true →
     rising i (numbersOf (named i c k others)) ≡ true
 unfolding rising
 rising-named i c Key.Missing others h = rising-later i (i + 1) (numbersOf others) (omega arith) h
-rising-named i c (Key.Named key) others h = both (leb i i) (rising (i + 1) (numbersOf others)) (le-leb i i (omega arith)) h
+rising-named i c (Key.Named key) others h = and-intro (le-leb i i (omega arith)) h
 
 rising-from : (i : ℕ) (cs : List Change) → rising i (numbersOf (destinationsFrom i cs)) ≡ true
 unfolding destinationsFrom rising
@@ -96,9 +96,9 @@ among-below : (j low : ℕ) (ns : List ℕ) → j < low → rising low ns ≡ tr
 unfolding among rising
 among-below j low [] h r = refl
 among-below j low (n ∷ ns) h r =
-    let k = leb-true low n (and-left (leb low n) (rising (n + 1) ns) r) in
+    let k = leb-true low n (and-elim-left (leb low n) (rising (n + 1) ns) r) in
     neither (eqb j n) (among j ns) (ne-eqb j n (λ e. omega arith))
-    (among-below j (n + 1) ns (omega arith) (and-right (leb low n) (rising (n + 1) ns) r))
+    (among-below j (n + 1) ns (omega arith) (and-elim-right (leb low n) (rising (n + 1) ns) r))
 
 recordable-next : (c : Change) (cs : List Change) (j : ℕ) → recordable (c ∷ cs) (suc j) ≡ recordable cs j
 unfolding recordable
@@ -142,11 +142,11 @@ pub recordable-numbers :
 unfolding recordFrom among rising
 recordable-numbers cs [] f place low earlier g r = refl
 recordable-numbers cs (n ∷ ns) f place low earlier g r =
-    let k = leb-true low n (and-left (leb low n) (rising (n + 1) ns) r) in
+    let k = leb-true low n (and-elim-left (leb low n) (rising (n + 1) ns) r) in
     rw (f n (rw (eq-eqb n n refl)), g n k)
     (recordable-numbers cs ns (λ m h. f m (rw h (or-true (eqb m n)))) (place + 1) (n + 1) (n ∷ earlier)
     (λ m h. neither (eqb m n) (among m earlier) (ne-eqb m n (λ e. omega arith)) (g m (omega arith)))
-    (and-right (leb low n) (rising (n + 1) ns) r))
+    (and-elim-right (leb low n) (rising (n + 1) ns) r))
 
 pub record-taken : (cs : List Change) → recordFrom 0 cs [] (numbersOf (destinations cs)) ≡ Verdict.Passes
 unfolding among

@@ -5,15 +5,16 @@ use native.Mathlib.Omega.{arith}
 use mathlib.Core.Path.{_≡_, refl, sym, ap, _∙_}
 use mathlib.Core.List.{List, [], _∷_}
 use mathlib.Core.Bool.{Bool, true, false, cond, _&&_, _||_}
-use lib.Dec.{eqb, leb}
+use mathlib.Mathlib.Data.Bool.Basic.{and-elim-left, and-elim-right, and-intro}
+use lib.Dec.{eqb}
 use borrow.Author.Tests.{eqb-true, eq-eqb, le-leb}
 use Rattle.rules.specs.declared.Posting.{Posting}
 use Rattle.rules.specs.declared.Order.{Order}
 use Rattle.rules.specs.Postings.{ranked, compared, same, chain, ascending, present, bucket}
 use Rattle.rules.specs.Checks.{among}
 use Rattle.laws.specs.Words.{rising}
-use Rattle.booleans.proofs.Tests.{and-left, and-right, both, equal-tests}
-use Rattle.laws.proofs.Ranks.{Tri, less, equal, more, tri, ranked-equal, ranked-more, same-equal, same-self}
+use Rattle.booleans.proofs.Tests.{impossible, Tri, less, equal, more, tri, equal-tests}
+use Rattle.laws.proofs.Ranks.{ranked-equal, ranked-more, same-equal, same-self}
 use Rattle.laws.proofs.Sorted.{chain-before, chain-rest, chain-skip, ascending-rest}
 
 abbrev pub at : ℕ → ℕ → ℕ → Posting
@@ -29,17 +30,17 @@ same-numbers binding key row q =
     there : same (at binding key row) q ≡ true → ((eqb binding (q .binding) && eqb key (q .key)) && eqb row (q .row)) ≡ true
     there h =
         let e = same-equal (at binding key row) q h in
-        both (eqb binding (q .binding) && eqb key (q .key)) (eqb row (q .row))
-        (both (eqb binding (q .binding)) (eqb key (q .key)) (eq-eqb binding (q .binding) (ap (λ (p : Posting). p .binding) e))
+        and-intro
+        (and-intro (eq-eqb binding (q .binding) (ap (λ (p : Posting). p .binding) e))
         (eq-eqb key (q .key) (ap (λ (p : Posting). p .key) e)))
         (eq-eqb row (q .row) (ap (λ (p : Posting). p .row) e))
 
     back : ((eqb binding (q .binding) && eqb key (q .key)) && eqb row (q .row)) ≡ true → same (at binding key row) q ≡ true
     back h =
-        let x = and-left (eqb binding (q .binding) && eqb key (q .key)) (eqb row (q .row)) h in
-        let b = eqb-true binding (q .binding) (and-left (eqb binding (q .binding)) (eqb key (q .key)) x) in
-        let k = eqb-true key (q .key) (and-right (eqb binding (q .binding)) (eqb key (q .key)) x) in
-        let r = eqb-true row (q .row) (and-right (eqb binding (q .binding) && eqb key (q .key)) (eqb row (q .row)) h) in
+        let x = and-elim-left (eqb binding (q .binding) && eqb key (q .key)) (eqb row (q .row)) h in
+        let b = eqb-true binding (q .binding) (and-elim-left (eqb binding (q .binding)) (eqb key (q .key)) x) in
+        let k = eqb-true key (q .key) (and-elim-right (eqb binding (q .binding)) (eqb key (q .key)) x) in
+        let r = eqb-true row (q .row) (and-elim-right (eqb binding (q .binding) && eqb key (q .key)) (eqb row (q .row)) h) in
         rw (b, k, r) (same-self q)
 
 pub bucket-among :
@@ -70,11 +71,9 @@ before-row p q h b k = go (tri (p .row) (q .row))
     go : Tri (p .row) (q .row) → p .row < q .row
     go (less l) = l
     go (equal e) =
-        let z : _≡_ {A = ℕ} 0 1 = cc (ranked-equal (p .row) (q .row) Order.Same e, rows) in
-        absurd (omega arith)
+        impossible (cc (ranked-equal (p .row) (q .row) Order.Same e, rows))
     go (more m) =
-        let z : _≡_ {A = ℕ} 0 1 = cc (ranked-more (p .row) (q .row) Order.Same m, rows) in
-        absurd (omega arith)
+        impossible (cc (ranked-more (p .row) (q .row) Order.Same m, rows))
 
 rising-after :
     (binding key : ℕ) (p : Posting) (ps : List Posting) → binding ≡ p .binding → key ≡ p .key → chain p ps ≡ true →
@@ -91,10 +90,10 @@ rising-after binding key p (q ∷ qs) b k h =
         (binding ≡ q .binding → key ≡ q .key → rising (q .row + 1) (bucket binding key qs) ≡ true) →
         rising (p .row + 1) (cond m (q .row ∷ bucket binding key qs) (bucket binding key qs)) ≡ true
     go true e skip next =
-        let x = eqb-true binding (q .binding) (and-left (eqb binding (q .binding)) (eqb key (q .key)) e) in
-        let y = eqb-true key (q .key) (and-right (eqb binding (q .binding)) (eqb key (q .key)) e) in
+        let x = eqb-true binding (q .binding) (and-elim-left (eqb binding (q .binding)) (eqb key (q .key)) e) in
+        let y = eqb-true key (q .key) (and-elim-right (eqb binding (q .binding)) (eqb key (q .key)) e) in
         let l = before-row p q (chain-before p q qs h) (sym b ∙ x) (sym k ∙ y) in
-        both (leb (p .row + 1) (q .row)) (rising (q .row + 1) (bucket binding key qs)) (le-leb (p .row + 1) (q .row) (omega arith))
+        and-intro (le-leb (p .row + 1) (q .row) (omega arith))
         (next x y)
     go false e skip next = skip
 
@@ -109,8 +108,8 @@ bucket-rising binding key (q ∷ qs) h =
         (m : Bool) → (eqb binding (q .binding) && eqb key (q .key)) ≡ m → rising 0 (bucket binding key qs) ≡ true →
         rising 0 (cond m (q .row ∷ bucket binding key qs) (bucket binding key qs)) ≡ true
     go true e ih =
-        let x = eqb-true binding (q .binding) (and-left (eqb binding (q .binding)) (eqb key (q .key)) e) in
-        let y = eqb-true key (q .key) (and-right (eqb binding (q .binding)) (eqb key (q .key)) e) in
-        both (leb 0 (q .row)) (rising (q .row + 1) (bucket binding key qs)) (le-leb 0 (q .row) (omega arith))
+        let x = eqb-true binding (q .binding) (and-elim-left (eqb binding (q .binding)) (eqb key (q .key)) e) in
+        let y = eqb-true key (q .key) (and-elim-right (eqb binding (q .binding)) (eqb key (q .key)) e) in
+        and-intro (le-leb 0 (q .row) (omega arith))
         (rising-after binding key q qs x y h)
     go false e ih = ih

@@ -1,19 +1,14 @@
 -- Destinations added and sources taken away, as sets and as ascending lists.
 use mathlib.Core.Path.{_≡_, refl, sym, ap, _∙_}
 use mathlib.Core.List.{List, [], _∷_}
-use mathlib.Core.Bool.{Bool, true, false, not, _&&_, _||_, or-false, and-true}
+use mathlib.Core.Bool.{Bool, true, false, not, _&&_, _||_, or-false, or-assoc, and-true}
 use Rattle.rules.specs.declared.Posting.{Posting}
 use Rattle.rules.specs.Postings.{same, ascending, present, inserted, removed}
 use Rattle.rules.specs.Orders.{Numbered, postingsOf}
 use Rattle.laws.specs.Words.{added, takenAway}
+use Rattle.booleans.proofs.Tests.{or-swap}
 use Rattle.laws.proofs.Lists.{present-inserted, present-removed}
 use Rattle.laws.proofs.Sorted.{ascending-inserted, ascending-removed, ascending-same}
-
-or-turn : (a b c : Bool) → ((a || b) || c) ≡ (b || (a || c))
-or-turn true true c = refl
-or-turn true false c = refl
-or-turn false true c = refl
-or-turn false false c = refl
 
 pub present-added :
     (p : Posting) (ds : List Numbered) (ps : List Posting) →
@@ -21,8 +16,10 @@ pub present-added :
 unfolding added present
 present-added p [] ps = sym (or-false (present p ps))
 present-added p (d ∷ ds) ps =
+    let here : Bool = same p (d .posting) in
+    let later : Bool = present p (postingsOf ds) in
     present-added p ds (inserted (d .posting) ps)
-    ∙ rw (present-inserted p (d .posting) ps) (or-turn (same p (d .posting)) (present p ps) (present p (postingsOf ds)))
+    ∙ rw (present-inserted p (d .posting) ps) (or-assoc here (present p ps) later ∙ or-swap here (present p ps) later)
 
 and-both : (a b c : Bool) → ((a && not b) && not c) ≡ (a && not (b || c))
 and-both true true c = refl

@@ -1,24 +1,25 @@
 -- Lists stay ascending, and an ascending list is told by what stands in it.
 use mathlib.Core.Path.{_≡_, refl, sym, ap, _∙_}
 use mathlib.Core.List.{List, [], _∷_}
-use mathlib.Core.Bool.{Bool, true, false, _&&_, _||_}
+use mathlib.Core.Bool.{Bool, true, false, _||_}
+use mathlib.Mathlib.Data.Bool.Basic.{and-elim-left, and-elim-right, and-intro}
 use Rattle.rules.specs.declared.Posting.{Posting}
 use Rattle.rules.specs.declared.Order.{Order}
 use Rattle.rules.specs.Postings.{every, compared, isBefore, isSame, same, chain, ascending, present, placed, inserted, removed}
-use Rattle.booleans.proofs.Tests.{clash, and-left, and-right, both, by-cases, neither}
+use Rattle.booleans.proofs.Tests.{clash, by-cases, neither}
 use Rattle.laws.proofs.Ranks.{compared-same, is-before, after-before, before-before, same-equal, same-self}
 
 pub chain-before : (p q : Posting) (qs : List Posting) → chain p (q ∷ qs) ≡ true → compared p q ≡ Order.Before
 unfolding chain
-chain-before p q qs h = is-before (compared p q) (and-left (isBefore (compared p q)) (chain q qs) h)
+chain-before p q qs h = is-before (compared p q) (and-elim-left (isBefore (compared p q)) (chain q qs) h)
 
 pub chain-rest : (p q : Posting) (qs : List Posting) → chain p (q ∷ qs) ≡ true → chain q qs ≡ true
 unfolding chain
-chain-rest p q qs h = and-right (isBefore (compared p q)) (chain q qs) h
+chain-rest p q qs h = and-elim-right (isBefore (compared p q)) (chain q qs) h
 
 pub chain-cons : (p q : Posting) (qs : List Posting) → compared p q ≡ Order.Before → chain q qs ≡ true → chain p (q ∷ qs) ≡ true
 unfolding chain
-chain-cons p q qs e h = both (isBefore (compared p q)) (chain q qs) (ap isBefore e) h
+chain-cons p q qs e h = and-intro (ap isBefore e) h
 
 pub chain-skip : (p q : Posting) (l : List Posting) → compared p q ≡ Order.Before → chain q l ≡ true → chain p l ≡ true
 unfolding chain
@@ -73,21 +74,21 @@ ascending-removed p (x ∷ xs) h =
 pub every-inserted :
     (f : Posting → Bool) (p : Posting) (l : List Posting) → f p ≡ true → every f l ≡ true → every f (inserted p l) ≡ true
 unfolding every inserted
-every-inserted f p [] e h = both (f p) true e refl
-every-inserted f p (x ∷ xs) e h = go (compared p x) (every-inserted f p xs e (and-right (f x) (every f xs) h))
+every-inserted f p [] e h = and-intro e refl
+every-inserted f p (x ∷ xs) e h = go (compared p x) (every-inserted f p xs e (and-elim-right (f x) (every f xs) h))
   where
     go : (o : Order) → every f (inserted p xs) ≡ true → every f (placed o p x xs (inserted p xs)) ≡ true
-    go Order.Before ih = both (f p) (f x && every f xs) e h
+    go Order.Before ih = and-intro e h
     go Order.Same ih = h
-    go Order.After ih = both (f x) (every f (inserted p xs)) (and-left (f x) (every f xs) h) ih
+    go Order.After ih = and-intro (and-elim-left (f x) (every f xs) h) ih
 
 pub every-removed : (f : Posting → Bool) (p : Posting) (l : List Posting) → every f l ≡ true → every f (removed p l) ≡ true
 unfolding every removed
 every-removed f p [] h = refl
 every-removed f p (x ∷ xs) h =
     by-cases (λ (k : List Posting). every f k ≡ true) (same p x)
-    (λ e. every-removed f p xs (and-right (f x) (every f xs) h))
-    (λ e. both (f x) (every f (removed p xs)) (and-left (f x) (every f xs) h) (every-removed f p xs (and-right (f x) (every f xs) h)))
+    (λ e. every-removed f p xs (and-elim-right (f x) (every f xs) h))
+    (λ e. and-intro (and-elim-left (f x) (every f xs) h) (every-removed f p xs (and-elim-right (f x) (every f xs) h)))
 
 -- what is before an ascending list does not stand in it
 pub absent-before : (p : Posting) (l : List Posting) → chain p l ≡ true → present p l ≡ false

@@ -5,6 +5,7 @@ use mathlib.Core.Path.{_≡_, refl, sym, _∙_}
 use mathlib.Core.List.{List, _∷_}
 use mathlib.Core.Bool.{true, false, not}
 use mathlib.Core.Logic.{_⊎_, inl, inr}
+use mathlib.Mathlib.Data.Bool.Basic.{and-elim-left}
 use lib.ListN.{length}
 use lib.Dec.{eqb}
 use borrow.Author.Tests.{eq-eqb, ne-eqb, lt-ltb, le-ltb}
@@ -18,7 +19,7 @@ use Rattle.rules.specs.Orders.{Numbered}
 use Rattle.rules.specs.Storage.{insertion, Removal, removal}
 use Rattle.rules.specs.Publication.{undoing, notInserted, preparing, removing}
 use Rattle.laws.specs.Words.{RemovedOnly}
-use Rattle.booleans.proofs.Tests.{by-cases, and-left, or-left, or-right}
+use Rattle.booleans.proofs.Tests.{by-cases, or-left, or-right}
 use Rattle.laws.proofs.Lists.{present-removed, length-removed, length-inserted-most}
 use Rattle.laws.proofs.Sorted.{ascending-inserted, ascending-removed, every-inserted, every-removed}
 use Rattle.laws.proofs.Flat.{Sound}
@@ -128,7 +129,7 @@ removed-only-then byte q ps l qs r =
         (p : Posting) → (removal byte q ps .postings ≡ ps) ⊎ (removal byte q ps .postings ≡ removed q ps) →
         present p (removal byte q ps .postings) ≡ true → present p ps ≡ true
     back p (inl e) h = rw e at h
-    back p (inr e) h = and-left (present p ps) (not (same p q)) (sym (present-removed p q ps) ∙ (rw e at h))
+    back p (inr e) h = and-elim-left (present p ps) (not (same p q)) (sym (present-removed p q ps) ∙ (rw e at h))
 
     stays :
         (p : Posting) → present p ps ≡ true → same p q ≡ false →

@@ -7,9 +7,10 @@ use mathlib.Core.List.{List, [], _∷_}
 use mathlib.Core.Bool.{Bool, true, false, or-true}
 use mathlib.Core.Logic.{_⊎_, inl, inr, ⊎-elim}
 use lib.ListN.{length}
-use lib.Dec.{eqb, ltb}
-use borrow.Author.Tests.{eqb-true, eqb-false, ltb-true, ltb-false}
+use lib.Dec.{eqb}
+use borrow.Author.Tests.{eqb-true, eqb-false}
 use Rattle.strips.specs.Strips.{byteAt}
+use Rattle.strips.proofs.Walk.{stretch-one, stretch-join}
 use Rattle.rules.specs.declared.Posting.{Posting}
 use Rattle.rules.specs.declared.Answer.{Answer}
 use Rattle.rules.specs.declared.Verdict.{Verdict}
@@ -33,19 +34,12 @@ byte-is byte = go (eqb byte 0) refl
 
 -- one byte more in front
 pub quiet-cons : (strip : List ℕ) (from to : ℕ) → byteAt strip from ≡ 0 → Quiet strip (from + 1) to → Quiet strip from to
-quiet-cons strip from to h q i k l = go (eqb i from) refl
-  where
-    go : (b : Bool) → eqb i from ≡ b → byteAt strip i ≡ 0
-    go true e = rw (eqb-true i from e) h
-    go false e = let ne = eqb-false i from e in q i (omega arith) l
+quiet-cons strip from to h q =
+    let P : ℕ → Type 0 = λ i. byteAt strip i ≡ 0 in stretch-join P from (from + 1) to (stretch-one P from h) q
 
 -- two stretches, one behind the other
 pub quiet-join : (strip : List ℕ) (from via to : ℕ) → Quiet strip from via → Quiet strip via to → Quiet strip from to
-quiet-join strip from via to p q i k l = go (ltb i via) refl
-  where
-    go : (b : Bool) → ltb i via ≡ b → byteAt strip i ≡ 0
-    go true e = p i k (ltb-true i via e)
-    go false e = q i (ltb-false i via e) l
+quiet-join strip = stretch-join (λ i. byteAt strip i ≡ 0)
 
 pub quiet-none : (strip : List ℕ) (from to : ℕ) → to ≤ from → Quiet strip from to
 quiet-none strip from to h i k l = absurd (omega arith)

@@ -1,5 +1,5 @@
--- The words in which the laws speak of a call, without its steps: what destinations and sources come to, the bytes that are
--- read, and what a change of a set may take away.
+-- The words in which the laws speak of a call, without its steps: what it finds, what destinations and sources come to, the bytes
+-- that are read, and what a change of a set may take away.
 use Prim.Native.Nat.{ℕ, _+_, _<_, _≤_}
 use mathlib.Core.Path.{_≡_}
 use mathlib.Core.List.{List, [], _∷_}
@@ -13,8 +13,12 @@ use Rattle.rules.specs.declared.Answer.{Answer}
 use Rattle.rules.specs.Answers.{toldOf, poisons}
 use Rattle.rules.specs.Postings.{present, inserted, removed}
 use Rattle.rules.specs.Orders.{Numbered, Call}
-use Rattle.rules.specs.Table.{wellFormed}
+use Rattle.rules.specs.Table.{postings, wellFormed}
 use Rattle.rules.specs.Calls.{Outcome, asBefore}
+
+-- the postings of a table with its head, as a call finds them
+abbrev pub postingsBefore : Head → List ℕ → List Posting
+postingsBefore head table = postings (head .used) table
 
 -- the list with these destinations
 unfoldable pub added : List Numbered → List Posting → List Posting

@@ -54,11 +54,6 @@ pub below-next : (m l : ℕ) → m % 2 ^ suc l ≡ digit m l * 2 ^ l + m % 2 ^ l
 unfolding digit
 below-next m l = ap (λ (k : ℕ). m % 2 ^ k) (sym (one-add l)) ∙ mod-pow-add m 1 l
 
--- the same of the lanes below a height
-pub lanes-below-next : (m l : ℕ) → lanesBelow m (suc l) ≡ digit m l * 2 ^ l + lanesBelow m l
-unfolding lanesBelow
-lanes-below-next m l = below-next m l
-
 -- the lanes below a height are a number below its power
 pub below-small : (m h : ℕ) → lanesBelow m h < 2 ^ h
 unfolding lanesBelow
@@ -167,25 +162,6 @@ cleared-not-in m l h = rw (no-lane-digit m l h) (omega arith)
 pub cleared-less : (m l : ℕ) → cleared m l ≤ m
 unfolding cleared
 cleared-less m l = omega arith
-
--- the lanes below stay
-pub cleared-below : (m l : ℕ) → lanesBelow (cleared m l) l ≡ lanesBelow m l
-unfolding lanesBelow
-cleared-below m l = rw (cleared-digit m l) (with-below m l 0)
-
--- a mask without the highest lane that it can have is its lanes below
-pub cleared-top : (m l : ℕ) → m < 2 ^ suc l → cleared m l ≡ lanesBelow m l
-unfolding cleared
-cleared-top m l small = let all = bound-below m (suc l) small in let next = lanes-below-next m l in omega arith
-
--- from the top lane down: a lane that is cleared leaves the lanes below it
-pub below-cleared : (m l : ℕ) → cleared (lanesBelow m (suc l)) l ≡ lanesBelow m l
-unfolding lanesBelow
-below-cleared m l = cleared-top (m % 2 ^ suc l) l (below-small m (suc l)) ∙ rw one-add at (mod-mod-pow m 1 l)
-
--- and so does a lane that is not in the mask
-pub below-not-in : (m l : ℕ) → laneIn m l ≡ false → lanesBelow m (suc l) ≡ lanesBelow m l
-below-not-in m l h = lanes-below-next m l ∙ rw (no-lane-digit m l h) (omega arith)
 
 -- a lane that is in the mask is entered with no change
 pub entered-in : (m l : ℕ) → laneIn m l ≡ true → entered m l ≡ m
@@ -334,10 +310,6 @@ pub lane-within : (a b : ℕ) → ((l : ℕ) → l < mostLanes → laneIn a l �
 unfolding within
 lane-within a b f = lane-within-below mostLanes a b f
 
--- a mask is within itself
-pub within-same : (a : ℕ) → within a a ≡ true
-within-same a = lane-within a a (λ l lt i. i)
-
 -- a mask is inside itself
 pub inside-same : (a : ℕ) → Inside a a
 inside-same a l i = i
@@ -346,17 +318,9 @@ inside-same a l i = i
 pub inside-then : (a b c : ℕ) → Inside a b → Inside b c → Inside a c
 inside-then a b c f g l i = g l (f l i)
 
--- a mask that is within another is inside it
-pub within-inside : (a b : ℕ) → a < 2 ^ mostLanes → within a b ≡ true → Inside a b
-within-inside a b small w l i = within-lane a b l w (below-lanes a mostLanes l (bound-below a mostLanes small) i) i
-
--- and one that is inside another is within it
+-- a mask that is inside another is within it
 pub inside-within : (a b : ℕ) → Inside a b → within a b ≡ true
 inside-within a b f = lane-within a b (λ l lt i. f l i)
-
--- what is inside a mask has no lane above those of the mask
-pub inside-below : (a b h : ℕ) → Inside a b → lanesBelow b h ≡ b → lanesBelow a h ≡ a
-inside-below a b h f e = lanes-below a h (λ l i. below-lanes b h l e (f l i))
 
 -- a mask without a lane is inside it
 pub inside-cleared : (m l : ℕ) → Inside (cleared m l) m

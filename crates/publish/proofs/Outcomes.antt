@@ -25,8 +25,8 @@ seen-outcome r t l o e =
       recordList = ap (λ (s : Seen). s .recordList) e i;
     }
 
--- two results, with table and record list, are one
-pub record OneOutcome (r r′ : Done) (t t′ l l′ : List ℕ) : Type 0 where
+-- two results, whatever a call gives, with table and record list, are one
+pub record OneOutcome {A : Type 0} (r r′ : A) (t t′ l l′ : List ℕ) : Type 0 where
   pub result : r ≡ r′
   pub table : t ≡ t′
   pub recordList : l ≡ l′

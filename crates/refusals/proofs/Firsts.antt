@@ -3,6 +3,7 @@ use Prim.Native.Nat.{ℕ, _+_, _≤_}
 use mathlib.Core.Path.{_≡_, refl, sym, ap, _∙_}
 use mathlib.Core.List.{List, [], _∷_, _++_}
 use mathlib.Core.Bool.{Bool, true, _&&_, not}
+use mathlib.Mathlib.Data.Bool.Basic.{and-elim-left, and-elim-right, and-intro}
 use lib.ListN.{length, getD}
 use lib.Dec.{ltb, leb}
 use borrow.Author.Tests.{leb-true}
@@ -15,7 +16,6 @@ use Rattle.rules.specs.Postings.{every}
 use Rattle.rules.specs.Table.{wellFormed}
 use Rattle.rules.specs.Orders.{changes, guards, properChanges, properGuards, properLists, destinationOf, noChange, lending}
 use Rattle.rules.specs.Checks.{must, orElse, firstRefusal, tableCheck, poisonCheck, listCheck, stripCheck, roomCheck, guardCheck, isNamed, recordable, among, recordFrom, recordCheck, twiceCheck, presentCheck, overlapCheck, prepareChecks, rollbackChecks, removalChecks, publishChecks, countChecks}
-use Rattle.booleans.proofs.Tests.{and-left, and-right, both}
 use Rattle.laws.proofs.Checks.{must-holds, first-passes, else-first, else-second}
 use Rattle.checks.specs.Guarding.{properBeside, bindingsFrom}
 use Rattle.checks.proofs.Guarding.{unheld-known}
@@ -51,10 +51,6 @@ else-passes (Verdict.Refused a) = refl
 first-one : (v : Verdict) → firstRefusal (v ∷ []) ≡ v
 unfolding firstRefusal
 first-one v = else-passes v
-
-first-cons : (v : Verdict) (vs : List Verdict) → firstRefusal (v ∷ vs) ≡ andThen v (firstRefusal vs)
-unfolding firstRefusal andThen
-first-cons v vs = refl
 
 -- two checks, then others
 first-two :
@@ -218,7 +214,7 @@ proper-few : (cs : List ℕ) (paired : Bool) → properBeside cs paired ≡ true
 proper-few cs paired h =
     let p : Bool = properChanges cs in
     let m : Bool = leb (length (changes cs)) mostChanges in
-    leb-true (length (changes cs)) mostChanges (and-right p m (and-left (p && m) paired h))
+    leb-true (length (changes cs)) mostChanges (and-elim-right p m (and-elim-left (p && m) paired h))
 
 pub lists-few : (cs : List ℕ) (paired : Bool) (strip : List ℕ) → ofLists cs paired strip ≡ Verdict.Passes → length (changes cs) ≤ mostChanges
 lists-few cs paired strip e = proper-few cs paired (lists-proper cs paired strip e)
@@ -314,8 +310,8 @@ record-below place cs earlier (n ∷ ns) e =
     let named : Bool = isNamed (destinationOf (getD cs n noChange)) in
     let test : Bool = ltb n (length cs) && named && not (among n earlier) in
     let h : test ≡ true = must-holds test (Answer.Record place) (else-first (must test (Answer.Record place)) _ e) in
-    both (ltb n (length cs)) (every (λ n. ltb n (length cs)) ns)
-    (and-left (ltb n (length cs)) named (and-left (ltb n (length cs) && named) (not (among n earlier)) h))
+    and-intro
+    (and-elim-left (ltb n (length cs)) named (and-elim-left (ltb n (length cs) && named) (not (among n earlier)) h))
     (record-below (place + 1) cs (n ∷ earlier) ns (else-second (must test (Answer.Record place)) _ e))
 
 module _ (head : Head) (table cs gs strip list : List ℕ) where

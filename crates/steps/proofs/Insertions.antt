@@ -16,6 +16,7 @@ use Rattle.rules.specs.Table.{capacity, postings}
 use Rattle.rules.specs.Orders.{Numbered, named, destinationOf, destinationsFrom, noChange}
 use Rattle.rules.specs.Storage.{insertion}
 use Rattle.rules.specs.Publication.{Undone, Stage, undoing, notInserted, byFault, preparing}
+use Rattle.booleans.proofs.Tests.{impossible}
 use Rattle.changes.proofs.Walk.{destinations-left, destinations-none}
 use Rattle.table.specs.Holding.{Ordered}
 use Rattle.table.proofs.Keeping.{carries-postings, carries-ordered}
@@ -23,6 +24,7 @@ use Rattle.storage.specs.declared.Inserted.{Inserted}
 use Rattle.steps.specs.declared.Reached.{Reached}
 use Rattle.storage.specs.Leaving.{InsertionIn}
 use Rattle.steps.specs.Leaving.{blamedOn, StageIn, backward, inOrder}
+use Rattle.steps.proofs.Undos.{backward-none}
 
 -- a prepare that has come up to i, with so many postings inserted
 pub record Preparing (cs : List Change) (strip : List ℕ) (used₀ : ℕ) (t₀ t : List ℕ) (used read inserted i : ℕ) : Type 0 where
@@ -45,10 +47,6 @@ preparing-step :
 unfolding preparing
 preparing-step capacity strip d ds done read ps = refl
 
-none-back : (cs : List Change) → [] ≡ backward inOrder 0 cs
-unfolding backward
-none-back cs = refl
-
 pub prepare-start :
     (cs : List Change) (strip : List ℕ) (used : ℕ) (t : List ℕ) → Ordered t used → Preparing cs strip used t t used 0 0 0
 prepare-start cs strip used t h =
@@ -56,22 +54,22 @@ prepare-start cs strip used t h =
       low = omega arith;
       few = omega arith;
       some = omega arith;
-      count = ap length (none-back cs);
+      count = ap length (backward-none inOrder cs);
       len = refl;
       ordered = h;
-      is = ap (λ done. preparing (capacity t) strip (destinationsFrom 0 cs) done 0 (postings used t)) (none-back cs);
+      is = ap (λ done. preparing (capacity t) strip (destinationsFrom 0 cs) done 0 (postings used t)) (backward-none inOrder cs);
     }
 
 -- no fault is blamed on no change, and the blame that there is ends the prepare
 none-blamed : (fault : Fault) (change : ℕ) → blamedOn fault change ≡ Verdict.Passes → fault ≡ Fault.Nothing
 none-blamed Fault.Nothing change e = refl
-none-blamed Fault.Store change e = let z : _≡_ {A = ℕ} 0 1 = cc in absurd (omega arith)
-none-blamed Fault.Full change e = let z : _≡_ {A = ℕ} 0 1 = cc in absurd (omega arith)
+none-blamed Fault.Store change e = impossible (cc)
+none-blamed Fault.Full change e = impossible (cc)
 
 blamed-ends :
     (fault : Fault) (change : ℕ) (why : Answer) → blamedOn fault change ≡ Verdict.Refused why → (back : Undone) (next : Stage) →
     byFault fault change back next ≡ notInserted why change back
-blamed-ends Fault.Nothing change why e back next = let z : _≡_ {A = ℕ} 0 1 = cc in absurd (omega arith)
+blamed-ends Fault.Nothing change why e back next = impossible (cc)
 blamed-ends Fault.Store change why e back next =
     let same : Answer.Store change ≡ why = cc in ap (λ (a : Answer). notInserted a change back) same
 blamed-ends Fault.Full change why e back next =

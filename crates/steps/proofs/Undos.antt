@@ -4,6 +4,7 @@ use native.Mathlib.Omega.{arith}
 use mathlib.Core.Path.{_≡_, refl, sym, ap, _∙_}
 use mathlib.Core.List.{List, [], _∷_, _++_, reverse, reverseAux-eq, append-nil}
 use mathlib.Core.Bool.{Bool, true, cond}
+use mathlib.Mathlib.Data.Bool.Basic.{and-elim-left, and-elim-right}
 use lib.ListN.{length, getD}
 use lib.Dec.{ltb}
 use borrow.Author.Tests.{ltb-true}
@@ -18,7 +19,7 @@ use Rattle.rules.specs.Orders.{Numbered, named, destinationOf, noChange, record
 use Rattle.rules.specs.Storage.{removal}
 use Rattle.rules.specs.Postings.{every}
 use Rattle.rules.specs.Publication.{Undone, undoing, whyNot, notInserted}
-use Rattle.booleans.proofs.Tests.{and-left, and-right}
+use Rattle.changes.proofs.Walk.{named-append}
 use Rattle.table.specs.Holding.{Ordered}
 use Rattle.table.proofs.Keeping.{carries-postings, carries-ordered}
 use Rattle.storage.specs.declared.Removed.{Removed}
@@ -80,6 +81,11 @@ pub record Undoing (number : ℕ → ℕ) (cs : List Change) (strip : List ℕ) 
       undoing strip (backward number n cs) Verdict.Passes read (postings used t₀) ≡
       undoing strip (backward number i cs) (b .verdict) (b .read) (postings (b .used) t)
 
+-- no change, and one change further
+pub backward-none : (number : ℕ → ℕ) (cs : List Change) → [] ≡ backward number 0 cs
+unfolding backward
+backward-none number cs = refl
+
 backward-next :
     (number : ℕ → ℕ) (cs : List Change) (i : ℕ) → 0 < i →
     backward number i cs ≡ named (number (i - 1)) (getD cs (number (i - 1)) noChange)
@@ -132,11 +138,6 @@ named-reverse n c Key.Missing ds = sym (append-nil (reverse ds))
 named-reverse n c (Key.Named key) ds =
     reverseAux-eq ds (record { number = n; posting = record { binding = c .binding; key = key; row = c .row } } ∷ [])
 
-named-append :
-    (n : ℕ) (c : Change) (k : Key) (ds es : List Numbered) → named n c k ds ++ es ≡ named n c k (ds ++ es)
-named-append n c Key.Missing ds es = refl
-named-append n c (Key.Named key) ds es = refl
-
 backward-last :
     (cs : List Change) (n : ℕ) (ns : List ℕ) (i : ℕ) →
     backward (asRecorded (n ∷ ns)) (suc i) cs ≡
@@ -150,13 +151,9 @@ backward-last cs n ns (suc i) =
     (named-append k (getD cs k noChange) (destinationOf (getD cs k noChange)) (backward (asRecorded ns) i cs)
     (named n (getD cs n noChange) (destinationOf (getD cs n noChange)) []))
 
-backward-none : (cs : List Change) → [] ≡ backward (asRecorded []) 0 cs
-unfolding backward
-backward-none cs = refl
-
 pub recorded-backward : (cs : List Change) (ns : List ℕ) → reverse (recorded cs ns) ≡ backward (asRecorded ns) (length ns) cs
 unfolding recorded
-recorded-backward cs [] = backward-none cs
+recorded-backward cs [] = backward-none (asRecorded []) cs
 recorded-backward cs (n ∷ ns) =
     named-reverse n (getD cs n noChange) (destinationOf (getD cs n noChange)) (recorded cs ns)
     ∙ (ap (λ ds. ds ++ named n (getD cs n noChange) (destinationOf (getD cs n noChange)) []) (recorded-backward cs ns)
@@ -167,9 +164,9 @@ pub number-below :
     (count : ℕ) (ns : List ℕ) (i : ℕ) → every (λ n. ltb n count) ns ≡ true → i < length ns → getD ns i 0 < count
 unfolding every
 number-below count [] i e h = absurd (omega arith)
-number-below count (n ∷ ns) zero e h = ltb-true n count (and-left (ltb n count) (every (λ n. ltb n count) ns) e)
+number-below count (n ∷ ns) zero e h = ltb-true n count (and-elim-left (ltb n count) (every (λ n. ltb n count) ns) e)
 number-below count (n ∷ ns) (suc i) e h =
-    number-below count ns i (and-right (ltb n count) (every (λ n. ltb n count) ns) e) (omega arith)
+    number-below count ns i (and-elim-right (ltb n count) (every (λ n. ltb n count) ns) e) (omega arith)
 
 -- a change could not be inserted: the answer that says why where the undo was clean, else 12 with that change
 module _ (why : Answer) (change : ℕ) {u : Undone} {b : Back} {t : List ℕ} {most : ℕ} (o : UndoneIn u b t most) where

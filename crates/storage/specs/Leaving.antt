@@ -2,7 +2,6 @@
 use Prim.Native.Nat.{ℕ}
 use mathlib.Core.Path.{_≡_}
 use mathlib.Core.List.{List}
-use Rattle.rules.specs.Table.{postings}
 use Rattle.rules.specs.Storage.{Insertion, Removal}
 use Rattle.table.specs.Holding.{Carries}
 use Rattle.storage.specs.declared.Inserted.{Inserted}

@@ -119,9 +119,6 @@ drop-zeros (suc zero) h = absurd (omega arith)
 drop-zeros (suc (suc zero)) h = absurd (omega arith)
 drop-zeros (suc (suc (suc n))) h = let e : suc (suc (suc n)) - 3 ≡ n = omega arith in rw e
 
-length-three : (l : List ℕ) → 3 ≤ length l → length (take 3 l) ≡ 3
-length-three l h = length-take-le 3 l h
-
 -- postings laid out, cut at a place: those before it, those from it on, and the zeros
 module _ (ps : List Posting) (size at : ℕ) where
   front : at ≤ length ps → length (numbers (take at ps)) ≡ at * 3
@@ -159,7 +156,7 @@ module _ (ps : List Posting) (size at : ℕ) where
       (ap (raised 3 (at * 3) (length ps * 3)) (cut zeros)
       ∙ raised-parts (numbers (take at ps)) back zeros (at * 3) (length ps * 3) (front low) reach)
       ∙ (over-middle (numbers (take at ps)) (take 3 (back ++ zeros)) (back ++ drop 3 zeros) (at * 3) (front low)
-      (length-three (back ++ zeros) (omega arith)) p
+      (length-take-le 3 (back ++ zeros) (omega arith)) p
       ∙ rw (left, numbers-append (take at ps) (p ∷ drop at ps), drop-zeros free (omega arith))
       (sym (append-assoc (numbers (take at ps)) (numbers (p ∷ drop at ps)) (replicate (free - 3) 0))))
 
@@ -205,5 +202,5 @@ module _ (ps : List Posting) (size at : ℕ) where
       ∙ (lowered-parts (numbers (take at ps)) gone back zeros (at * 3) (length ps * 3) (front low) refl reach
       ∙ (sym (append-assoc (numbers (take at ps)) back rest)
       ∙ ap (λ (l : List ℕ). (numbers (take at ps) ++ back) ++ l) (sym (take-append-drop 3 rest)))))
-      ∙ (over-middle (numbers (take at ps) ++ back) (take 3 rest) (drop 3 rest) ((length ps - 1) * 3) kept (length-three rest long) blank
+      ∙ (over-middle (numbers (take at ps) ++ back) (take 3 rest) (drop 3 rest) ((length ps - 1) * 3) kept (length-take-le 3 rest long) blank
       ∙ rw (left, numbers-append (take at ps) (drop (suc at) ps), beyond))

@@ -9,7 +9,7 @@ use lib.ListN.{length, take, drop}
 use Rattle.rules.specs.declared.Posting.{Posting}
 use Rattle.rules.specs.declared.Order.{Order}
 use Rattle.rules.specs.Postings.{compared, isBefore, isSame, same, chain, ascending, present, placed, inserted, removed}
-use Rattle.booleans.proofs.Tests.{clash}
+use Rattle.booleans.proofs.Tests.{impossible, clash}
 use Rattle.laws.proofs.Ranks.{compared-self, compared-same, after-before, before-after, before-before, same-self}
 use Rattle.laws.proofs.Lists.{removed-absent}
 use Rattle.laws.proofs.Sorted.{chain-before, chain-rest, chain-cons, ascending-rest, absent-before}
@@ -130,14 +130,14 @@ at-present p ps at e = go (present p ps) e
   where
     go : (b : Bool) → cond b (Place.At (earlier p ps)) (Place.Gap (earlier p ps)) ≡ Place.At at → b ≡ true
     go true f = refl
-    go false f = let z : _≡_ {A = ℕ} 0 1 = cc in absurd (omega arith)
+    go false f = impossible (cc)
 
 pub gap-absent : (p : Posting) (ps : List Posting) (at : ℕ) → placeOf p ps ≡ Place.Gap at → present p ps ≡ false
 unfolding placeOf
 gap-absent p ps at e = go (present p ps) e
   where
     go : (b : Bool) → cond b (Place.At (earlier p ps)) (Place.Gap (earlier p ps)) ≡ Place.Gap at → b ≡ false
-    go true f = let z : _≡_ {A = ℕ} 0 1 = cc in absurd (omega arith)
+    go true f = impossible (cc)
     go false f = refl
 
 pub place-earlier :
@@ -151,8 +151,8 @@ place-earlier p ps at e = go (present p ps) e
         ⊎ (cond b (Place.At (earlier p ps)) (Place.Gap (earlier p ps)) ≡ Place.Gap at) →
         earlier p ps ≡ at
     go true (inl f) = cc
-    go true (inr f) = let z : _≡_ {A = ℕ} 0 1 = cc in absurd (omega arith)
-    go false (inl f) = let z : _≡_ {A = ℕ} 0 1 = cc in absurd (omega arith)
+    go true (inr f) = impossible (cc)
+    go false (inl f) = impossible (cc)
     go false (inr f) = cc
 
 pub gap-most : (p : Posting) (ps : List Posting) (at : ℕ) → placeOf p ps ≡ Place.Gap at → at ≤ length ps

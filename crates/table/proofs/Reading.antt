@@ -4,6 +4,7 @@ use native.Mathlib.Omega.{arith}
 use mathlib.Core.Path.{_≡_, refl, sym, ap, _∙_}
 use mathlib.Core.List.{List, [], _∷_}
 use mathlib.Core.Bool.{Bool, true, false, cond, _&&_, and-true, and-false, and-assoc}
+use mathlib.Mathlib.Data.Bool.Basic.{and-elim-left, and-elim-right, and-intro}
 use lib.ListN.{length, getD, drop, length-drop, drop-of-length-le}
 use lib.Seq.{getD-take, length-take-le}
 use lib.Dec.{eqb, ltb}
@@ -13,9 +14,9 @@ use Rattle.rules.specs.declared.Posting.{Posting}
 use Rattle.rules.specs.declared.Order.{Order}
 use Rattle.rules.specs.Postings.{every, ranked, compared, isBefore, chain, ascending, bucket, within}
 use Rattle.rules.specs.Table.{cells, postings}
-use Rattle.booleans.proofs.Tests.{and-left, and-right, both, equal-tests}
+use Rattle.booleans.proofs.Tests.{impossible, Tri, less, equal, more, tri, equal-tests}
 use Rattle.laws.proofs.Left.{item-left, every-left, every-none}
-use Rattle.laws.proofs.Ranks.{Tri, less, equal, more, tri, ranked-more}
+use Rattle.laws.proofs.Ranks.{ranked-more}
 use Rattle.laws.proofs.Sorted.{chain-before, chain-rest}
 use Rattle.table.specs.Holding.{blank}
 use Rattle.table.proofs.Cells.{length-cells}
@@ -89,13 +90,8 @@ binding-before p q e = go (tri (p .binding) (q .binding))
     go (less h) = omega arith
     go (equal h) = omega arith
     go (more h) =
-        let z : _≡_ {A =
-        ℕ} 0 1 = cc (
-          e,
-          ranked-more (p .binding) (q .binding)
-              (ranked (p .key) (q .key) (ranked (p .row) (q .row) Order.Same)) h,
-        ) in
-        absurd (omega arith)
+        impossible
+        (cc (e, ranked-more (p .binding) (q .binding) (ranked (p .key) (q .key) (ranked (p .row) (q .row) Order.Same)) h))
 
 -- in an ascending list the last posting has the greatest binding, so it alone decides
 pub within-last :
@@ -112,7 +108,7 @@ within-last bindings p (q ∷ qs) (suc i) h e =
         (b : Bool) → every (within bindings) (q ∷ qs) ≡ b → b ≡ ltb (getD (q ∷ qs) i blank .binding) bindings →
         (ltb (p .binding) bindings && b) ≡ ltb (getD (q ∷ qs) i blank .binding) bindings
     go true k ih =
-        let l = ltb-true (q .binding) bindings (and-left (ltb (q .binding) bindings) (every (within bindings) qs) k) in
+        let l = ltb-true (q .binding) bindings (and-elim-left (ltb (q .binding) bindings) (every (within bindings) qs) k) in
         let m = binding-before p q (chain-before p q qs h) in
         rw (lt-ltb (p .binding) bindings (omega arith)) ih
     go false k ih = and-false (ltb (p .binding) bindings) ∙ ih
@@ -158,12 +154,12 @@ zero-bits a b = equal-tests (eqb 0 (bitOr a b)) (eqb 0 a && eqb 0 b) apart toget
         let s = or-add-and a b in
         let l = and-le-l a b in
         let r = and-le-r a b in
-        both (eqb 0 a) (eqb 0 b) (eq-eqb 0 a (omega arith)) (eq-eqb 0 b (omega arith))
+        and-intro (eq-eqb 0 a (omega arith)) (eq-eqb 0 b (omega arith))
 
     together : (eqb 0 a && eqb 0 b) ≡ true → eqb 0 (bitOr a b) ≡ true
     together h =
-        let ea = eqb-true 0 a (and-left (eqb 0 a) (eqb 0 b) h) in
-        let eb = eqb-true 0 b (and-right (eqb 0 a) (eqb 0 b) h) in
+        let ea = eqb-true 0 a (and-elim-left (eqb 0 a) (eqb 0 b) h) in
+        let eb = eqb-true 0 b (and-elim-right (eqb 0 a) (eqb 0 b) h) in
         let s = or-add-and a b in
         eq-eqb 0 (bitOr a b) (omega arith)
 
