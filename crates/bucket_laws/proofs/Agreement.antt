@@ -6,7 +6,7 @@ use mathlib.Core.List.{List}
 use Rattle.bucket_rules.specs.Calls.{sortOf, bitmapOf}
 use Rattle.bucket_laws.specs.Clauses.{FirstInvalid, Canonical, Result, BucketResult, EquivalentResults, Gives, OutputRoom}
 use Rattle.bucket_laws.specs.Clauses.{BitmapRoom, Agree}
-use Rattle.bucket_laws.proofs.Standing.{place-stands, stands-below}
+use Rattle.bucket_laws.proofs.Standing.{place-among, among-below}
 use Rattle.bucket_laws.proofs.Range.{first-unique}
 use Rattle.bucket_laws.proofs.Exactly.{room-output-exactly, room-scratch-exactly, room-bitmap-exactly}
 use Rattle.bucket_laws.proofs.Upstream.{canonical-unique, sort-clauses, bitmap-clauses}
@@ -16,8 +16,8 @@ pub canonical-not-invalid :
     (input : List ℕ) (count : ℕ) (output : List ℕ) (bad : ℕ) → Canonical input count output → FirstInvalid input count bad → ⊥
 canonical-not-invalid input count output bad c f =
     let e = f .1 .holds in
-    let here = rw e at (place-stands input (f .0) (f .1 .within)) in
-    let low = stands-below bad output count (c .inRange) (c .members bad .1 here) in
+    let here = rw e at (place-among input (f .0) (f .1 .within)) in
+    let low = among-below bad output count (c .inRange) (c .members bad .1 here) in
     let high = f .1 .over in
     omega arith
 

@@ -16,10 +16,11 @@ use Rattle.booleans.proofs.Tests.{either}
 use Rattle.masks.specs.Masks.{mostLanes, laneIn}
 use Rattle.masks.proofs.Lanes.{no-lane, same-lanes}
 use Rattle.bucket_rules.specs.declared.Answer.{Answer}
-use Rattle.bucket_rules.specs.Buckets.{stands, mark, bits, numbersFor, membership}
+use Rattle.bucket_rules.specs.Buckets.{mark, bits, numbersFor, membership}
+use Rattle.lent_lists.specs.Among.{among}
 use Rattle.bucket_rules.specs.Calls.{listAfter, bitmapOf}
 use Rattle.bucket_laws.specs.Clauses.{InRange, bitIn, BitmapRoom, BitmapShort, Answers, MembershipBits, ScratchClauses}
-use Rattle.bucket_laws.proofs.Standing.{stands-not}
+use Rattle.bucket_laws.proofs.Standing.{among-not}
 use Rattle.bucket_laws.proofs.Marks.{mark-small, length-bits, bits-number, bits-bit}
 use Rattle.bucket_laws.proofs.Exactly.{accepted-of, bitmap-exactly}
 
@@ -27,13 +28,13 @@ module _ (input : List ℕ) (count : ℕ) where
   -- there are bucket count / 32 numbers, rounded up
   pub length-membership : length (membership input count) ≡ numbersFor count
   unfolding membership
-  length-membership = length-bits (λ b. stands b input) (numbersFor count) 0
+  length-membership = length-bits (λ b. among b input) (numbersFor count) 0
 
   -- number i has the lanes of the 32 buckets from 32 * i on
   getD-membership :
-      (i : ℕ) → i < numbersFor count → getD (membership input count) i 0 ≡ mark (λ b. stands b input) (i * 32) mostLanes
+      (i : ℕ) → i < numbersFor count → getD (membership input count) i 0 ≡ mark (λ b. among b input) (i * 32) mostLanes
   unfolding membership
-  getD-membership i h = rw zero-add at (bits-number (λ b. stands b input) (numbersFor count) 0 i h)
+  getD-membership i h = rw zero-add at (bits-number (λ b. among b input) (numbersFor count) 0 i h)
 
   -- past them there is none
   past-membership : (i : ℕ) → numbersFor count ≤ i → getD (membership input count) i 0 ≡ 0
@@ -44,26 +45,26 @@ module _ (input : List ℕ) (count : ℕ) where
   membership-small i =
       ⊎-elim
       (λ h.
-      rw (getD-membership i (ltb-true i (numbersFor count) h)) (mark-small (λ b. stands b input) (i * 32) mostLanes (omega arith)))
+      rw (getD-membership i (ltb-true i (numbersFor count) h)) (mark-small (λ b. among b input) (i * 32) mostLanes (omega arith)))
       (λ h. rw (past-membership i (ltb-false i (numbersFor count) h)) (pow-pos mostLanes))
       (either (ltb i (numbersFor count)))
 
   -- where there is a number for it, a bucket's bit says whether the bucket stands in the input
   pub membership-bit :
-      (b : ℕ) → b / 32 < numbersFor count → bitIn (membership input count) b ≡ stands b input
+      (b : ℕ) → b / 32 < numbersFor count → bitIn (membership input count) b ≡ among b input
   unfolding membership
-  membership-bit b h = bits-bit (λ x. stands x input) (numbersFor count) b h
+  membership-bit b h = bits-bit (λ x. among x input) (numbersFor count) b h
 
   -- and so of each bucket below the count
   pub membership-below :
-      (b : ℕ) → b < count → bitIn (membership input count) b ≡ stands b input
+      (b : ℕ) → b < count → bitIn (membership input count) b ≡ among b input
   membership-below b h = membership-bit b (omega arith)
 
   -- where every element is below the count, no bit at the count or above is set
   pub membership-above :
       InRange input count → (b : ℕ) → count ≤ b → bitIn (membership input count) b ≡ false
   membership-above r b h =
-      ⊎-elim (λ k. membership-bit b (ltb-true (b / 32) (numbersFor count) k) ∙ stands-not b input count r h)
+      ⊎-elim (λ k. membership-bit b (ltb-true (b / 32) (numbersFor count) k) ∙ among-not b input count r h)
       (λ k. rw (past-membership (b / 32) (ltb-false (b / 32) (numbersFor count) k)) (no-lane (b % 32)))
       (either (ltb (b / 32) (numbersFor count)))
 

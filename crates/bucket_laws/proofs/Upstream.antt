@@ -11,11 +11,12 @@ use Rattle.lent_lists.proofs.Writing.{length-written, written-front, written-la
 use Rattle.bucket_rules.specs.declared.Answer.{Answer}
 use Rattle.bucket_rules.specs.declared.Verdict.{Verdict}
 use Rattle.bucket_rules.specs.Answers.{isAccepted}
-use Rattle.bucket_rules.specs.Buckets.{stands, distinct}
+use Rattle.bucket_rules.specs.Buckets.{distinct}
+use Rattle.lent_lists.specs.Among.{among}
 use Rattle.bucket_rules.specs.Calls.{rangeCheck, listAfter, Outcome, sortOf, bitmapOf}
 use Rattle.bucket_laws.specs.Clauses.{InRange, Contains, Canonical, Result, BucketResult, Gives, OutputRoom, OutputShort, BitmapRoom}
 use Rattle.bucket_laws.specs.Clauses.{BitmapShort, Answers, BucketClauses}
-use Rattle.bucket_laws.proofs.Standing.{stands-exactly, stands-below}
+use Rattle.bucket_laws.proofs.Standing.{among-exactly, among-below}
 use Rattle.bucket_laws.proofs.Ascending.{sorted-unique}
 use Rattle.bucket_laws.proofs.Choosing.{choose-passes, passes-chosen, choose-sorted, choose-in-range, length-choose}
 use Rattle.bucket_laws.proofs.Choosing.{length-distinct}
@@ -33,21 +34,21 @@ canonical-unique input count l m a c =
 pub canonical-contains :
     (input : List ℕ) (count : ℕ) (output : List ℕ) → Canonical input count output → (b : ℕ) → Contains output b ↔ Contains input b
 canonical-contains input count output c b = (
-  λ p. stands-exactly b input .0 (c .members b .0 (stands-exactly b output .1 p)),
-  λ p. stands-exactly b output .0 (c .members b .1 (stands-exactly b input .1 p)),
+  λ p. among-exactly b input .0 (c .members b .0 (among-exactly b output .1 p)),
+  λ p. among-exactly b output .0 (c .members b .1 (among-exactly b input .1 p)),
 )
 
 -- there are no more distinct elements below the count than buckets
 pub distinct-within-count : (input : List ℕ) (count : ℕ) → length (distinct input count) ≤ count
 unfolding distinct
-distinct-within-count input count = length-choose (λ b. stands b input) count 0
+distinct-within-count input count = length-choose (λ b. among b input) count 0
 
 -- where every element is below the count, the distinct elements are upstream's canonical list
 pub in-range-canonical :
     (input : List ℕ) (count : ℕ) → InRange input count → Canonical input count (distinct input count)
 unfolding distinct
 in-range-canonical input count r =
-    let test : ℕ → Bool = λ b. stands b input in
+    let test : ℕ → Bool = λ b. among b input in
     record {
       sorted = choose-sorted test count 0;
       inRange = rw (zero-add count) at (choose-in-range test count 0);
@@ -55,7 +56,7 @@ in-range-canonical input count r =
       withinCount = length-choose test count 0;
       members = λ b. (
         λ h. choose-passes test b count 0 h .2,
-        λ h. let low = stands-below b input count r h in passes-chosen test b count 0 (omega arith) (omega arith) h,
+        λ h. let low = among-below b input count r h in passes-chosen test b count 0 (omega arith) (omega arith) h,
       );
     }
 

@@ -7,7 +7,7 @@ use mathlib.Core.Bool.{Bool, true, false, cond}
 use lib.ListN.{length}
 use lib.Dec.{eqb}
 use borrow.Author.Tests.{eqb-true, eqb-false}
-use Rattle.rules.specs.Checks.{among}
+use Rattle.lent_lists.specs.Among.{among}
 use Rattle.booleans.proofs.Tests.{or-left, or-right, neither}
 
 pub data Few (bound : ℕ) : List ℕ → Type 0 where

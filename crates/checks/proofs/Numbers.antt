@@ -14,7 +14,8 @@ use Rattle.rules.specs.declared.Change.{Change}
 use Rattle.rules.specs.declared.Answer.{Answer}
 use Rattle.rules.specs.declared.Verdict.{Verdict}
 use Rattle.rules.specs.Orders.{destinationOf, noChange}
-use Rattle.rules.specs.Checks.{must, orElse, isNamed, recordable, among, recordFrom}
+use Rattle.rules.specs.Checks.{must, orElse, isNamed, recordable, recordFrom}
+use Rattle.lent_lists.specs.Among.{among}
 use Rattle.laws.proofs.Names.{among-snoc}
 use Rattle.laws.proofs.Left.{item-left}
 use Rattle.checks.proofs.Few.{Few, none, more, few-length}

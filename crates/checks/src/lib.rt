@@ -17,7 +17,8 @@ ghost use lib.Dec.{eqb, ltb};
 ghost use Rattle.rules.specs.declared.Answer.{Answer};
 ghost use Rattle.rules.specs.Limits.{mostChanges};
 ghost use Rattle.rules.specs.Orders.{properKey, properChanges, properGuards, guards, changes, held, destinationOf};
-ghost use Rattle.rules.specs.Checks.{firstFailing, keyHeld, guarded, isNamed, recordable, among, recordFrom};
+ghost use Rattle.rules.specs.Checks.{firstFailing, keyHeld, guarded, isNamed, recordable, recordFrom};
+ghost use Rattle.lent_lists.specs.Among.{among};
 ghost use Rattle.checks.specs.Keys.{properAt};
 ghost use Rattle.checks.specs.Guarding.{properBeside, bindingsFrom};
 

@@ -6,7 +6,7 @@ use mathlib.Core.Bool.{true}
 use Rattle.rules.specs.declared.Answer.{Answer}
 use Rattle.rules.specs.declared.Head.{Head}
 use Rattle.rules.specs.Answers.{toldOf}
-use Rattle.rules.specs.Checks.{among}
+use Rattle.lent_lists.specs.Among.{among}
 use Rattle.rules.specs.Orders.{Call}
 use Rattle.rules.specs.declared.Done.{Done}
 use Rattle.rules.specs.Calls.{prepareOf, rollbackOf, removalOf, publishOf}

@@ -13,7 +13,8 @@ use Rattle.rules.specs.declared.Verdict.{Verdict}
 use Rattle.rules.specs.Table.{capacity, wellFormed}
 use Rattle.rules.specs.Orders.{properLists, destinations, sources, Call, changesOf}
 use Rattle.rules.specs.Answers.{toldOf}
-use Rattle.rules.specs.Checks.{must, orElse, firstRefusal, tableCheck, poisonCheck, listCheck, stripCheck, roomCheck, guardCheck, among, recordCheck, twiceCheck, presentCheck, overlapCheck, prepareChecks, rollbackChecks, removalChecks, publishChecks, countChecks}
+use Rattle.rules.specs.Checks.{must, orElse, firstRefusal, tableCheck, poisonCheck, listCheck, stripCheck, roomCheck, guardCheck, recordCheck, twiceCheck, presentCheck, overlapCheck, prepareChecks, rollbackChecks, removalChecks, publishChecks, countChecks}
+use Rattle.lent_lists.specs.Among.{among}
 use Rattle.rules.specs.Calls.{prepareOf, rollbackOf, removalOf, publishOf, countOf}
 use Rattle.booleans.proofs.Tests.{impossible}
 use Rattle.laws.proofs.Names.{guard-names, record-names, twice-names, present-names, overlap-names}

@@ -14,7 +14,7 @@ use Rattle.rules.specs.Postings.{present, counted}
 use Rattle.rules.specs.Table.{postings, laidOut, wellFormed}
 use Rattle.rules.specs.Orders.{destinations, sources, postingsOf, Call, changesOf}
 use Rattle.rules.specs.Answers.{isAccepted, poisons}
-use Rattle.rules.specs.Checks.{among}
+use Rattle.lent_lists.specs.Among.{among}
 use Rattle.rules.specs.Calls.{Outcome, asBefore, headWith, publishOf, countOf}
 use Rattle.laws.specs.Words.{added, takenAway, rising, Quiet}
 

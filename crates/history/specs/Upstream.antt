@@ -15,7 +15,8 @@ use Rattle.rules.specs.Postings.{present}
 use Rattle.rules.specs.Table.{postings}
 use Rattle.rules.specs.Orders.{guards, destinations, sources, postingsOf, changeNumbers, noChange, recorded, Call, changesOf}
 use Rattle.rules.specs.Answers.{isAccepted, poisons}
-use Rattle.rules.specs.Checks.{guarded, recordable, among, recordFrom}
+use Rattle.rules.specs.Checks.{guarded, recordable, recordFrom}
+use Rattle.lent_lists.specs.Among.{among}
 use Rattle.rules.specs.Calls.{Outcome, asBefore}
 use Rattle.laws.specs.Words.{postingsBefore, nowhere, RemovedOnly, Stable, rising, isRefusal}
 use Rattle.laws.specs.Names.{Apart, Repeated}

@@ -19,7 +19,8 @@ use Rattle.rules.specs.declared.Verdict.{Verdict}
 use Rattle.rules.specs.Postings.{every, same, present, inserted, bindingBelow}
 use Rattle.rules.specs.Table.{postings, wellFormed}
 use Rattle.rules.specs.Orders.{Numbered, named, destinationOf, destinationsFrom, destinations, sources, postingsOf, properLists, Call, changesOf}
-use Rattle.rules.specs.Checks.{must, orElse, firstRefusal, tableCheck, poisonCheck, listCheck, stripCheck, roomCheck, keyHeld, guarded, firstFailing, guardCheck, recordable, among, recordFrom, recordCheck, firstEqual, twiceFrom, twiceCheck, presentCheck, overlapCheck, prepareChecks, rollbackChecks, removalChecks, publishChecks}
+use Rattle.rules.specs.Checks.{must, orElse, firstRefusal, tableCheck, poisonCheck, listCheck, stripCheck, roomCheck, keyHeld, guarded, firstFailing, guardCheck, recordable, recordFrom, recordCheck, firstEqual, twiceFrom, twiceCheck, presentCheck, overlapCheck, prepareChecks, rollbackChecks, removalChecks, publishChecks}
+use Rattle.lent_lists.specs.Among.{among}
 use Rattle.laws.specs.Words.{isRefusal}
 use Rattle.booleans.proofs.Tests.{impossible, neither, or-swap}
 use Rattle.laws.proofs.Ranks.{same-turned}

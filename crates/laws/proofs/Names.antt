@@ -19,7 +19,8 @@ use Rattle.rules.specs.declared.Verdict.{Verdict}
 use Rattle.rules.specs.Postings.{present}
 use Rattle.rules.specs.Table.{postings}
 use Rattle.rules.specs.Orders.{Numbered, guards, held, destinations, sources, postingsOf, noChange, Call, changesOf}
-use Rattle.rules.specs.Checks.{must, orElse, firstRefusal, firstFailing, guarded, guardCheck, recordable, among, recordFrom, recordCheck, firstEqual, twiceFrom, twiceCheck, presentCheck, overlapCheck}
+use Rattle.rules.specs.Checks.{must, orElse, firstRefusal, firstFailing, guarded, guardCheck, recordable, recordFrom, recordCheck, firstEqual, twiceFrom, twiceCheck, presentCheck, overlapCheck}
+use Rattle.lent_lists.specs.Among.{among}
 use Rattle.laws.specs.Words.{nowhere, numberAt}
 use Rattle.laws.specs.Names.{noGuard, FirstAt, NamesFirst, Apart, twins, FirstPair, NamesPair, Repeated, FirstBad, NamesBad, Holder, RefusedAt}
 use Rattle.booleans.proofs.Tests.{impossible, clash, or-left, or-right, or-swap}

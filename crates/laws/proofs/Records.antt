@@ -15,7 +15,8 @@ use Rattle.rules.specs.declared.Change.{Change}
 use Rattle.rules.specs.declared.Verdict.{Verdict}
 use Rattle.rules.specs.Postings.{same, present, inserted}
 use Rattle.rules.specs.Orders.{Numbered, named, destinationOf, sourceOf, destinationsFrom, sourcesFrom, destinations, sources, changeNumbers, postingsOf, noChange, recorded}
-use Rattle.rules.specs.Checks.{isNamed, recordable, among, recordFrom}
+use Rattle.rules.specs.Checks.{isNamed, recordable, recordFrom}
+use Rattle.lent_lists.specs.Among.{among}
 use Rattle.laws.specs.Words.{added, takenAway, rising}
 use Rattle.booleans.proofs.Tests.{neither, or-swap}
 use Rattle.laws.proofs.Undo.{Put, put-back}

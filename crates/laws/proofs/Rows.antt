@@ -11,7 +11,7 @@ use borrow.Author.Tests.{eqb-true, eq-eqb, le-leb}
 use Rattle.rules.specs.declared.Posting.{Posting}
 use Rattle.rules.specs.declared.Order.{Order}
 use Rattle.rules.specs.Postings.{ranked, compared, same, chain, ascending, present, rowsUnder}
-use Rattle.rules.specs.Checks.{among}
+use Rattle.lent_lists.specs.Among.{among}
 use Rattle.laws.specs.Words.{rising}
 use Rattle.booleans.proofs.Tests.{impossible, Tri, less, equal, more, tri, equal-tests}
 use Rattle.laws.proofs.Ranks.{ranked-equal, ranked-more, same-equal, same-self}

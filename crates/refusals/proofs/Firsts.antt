@@ -15,7 +15,8 @@ use Rattle.rules.specs.Limits.{mostChanges}
 use Rattle.rules.specs.Postings.{every}
 use Rattle.rules.specs.Table.{wellFormed}
 use Rattle.rules.specs.Orders.{changes, guards, properChanges, properGuards, properLists, destinationOf, noChange, lending}
-use Rattle.rules.specs.Checks.{must, orElse, firstRefusal, tableCheck, poisonCheck, listCheck, stripCheck, roomCheck, guardCheck, isNamed, recordable, among, recordFrom, recordCheck, twiceCheck, presentCheck, overlapCheck, prepareChecks, rollbackChecks, removalChecks, publishChecks, countChecks}
+use Rattle.rules.specs.Checks.{must, orElse, firstRefusal, tableCheck, poisonCheck, listCheck, stripCheck, roomCheck, guardCheck, isNamed, recordable, recordFrom, recordCheck, twiceCheck, presentCheck, overlapCheck, prepareChecks, rollbackChecks, removalChecks, publishChecks, countChecks}
+use Rattle.lent_lists.specs.Among.{among}
 use Rattle.laws.proofs.Checks.{must-holds, first-passes, else-first, else-second}
 use Rattle.checks.specs.Guarding.{properBeside, bindingsFrom}
 use Rattle.checks.proofs.Guarding.{unheld-known}

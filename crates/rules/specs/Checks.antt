@@ -1,10 +1,11 @@
 -- The checks 1 to 9 and 14, each over its whole list, and the order in which a call runs them. The first that applies is given.
 use Prim.Native.Nat.{ℕ, _+_}
 use mathlib.Core.List.{List, [], _∷_, _++_}
-use mathlib.Core.Bool.{Bool, true, false, not, _&&_, _||_}
+use mathlib.Core.Bool.{Bool, true, false, not, _&&_}
 use lib.ListN.{length, getD}
 use lib.Dec.{eqb, ltb, leb}
 use Rattle.strips.specs.Strips.{properStrip}
+use Rattle.lent_lists.specs.Among.{among}
 use Rattle.rules.specs.declared.Key.{Key}
 use Rattle.rules.specs.declared.Change.{Change}
 use Rattle.rules.specs.declared.Guard.{Guard}
@@ -78,11 +79,6 @@ isNamed (Key.Named key) = true
 -- a number of a record means a destination: it is below the change count, and its after is not none
 unfoldable pub recordable : List Change → ℕ → Bool
 recordable cs n = ltb n (length cs) && isNamed (destinationOf (getD cs n noChange))
-
--- the number stands in the list
-unfoldable pub among : ℕ → List ℕ → Bool
-among n [] = false
-among n (m ∷ ms) = eqb n m || among n ms
 
 -- the first place that means no destination, or whose number is already at an earlier place
 unfoldable pub recordFrom : ℕ → List Change → List ℕ → List ℕ → Verdict

@@ -6,7 +6,7 @@ use mathlib.Core.Path.{_≡_, sym, _∙_}
 use lib.ListN.{take, drop}
 use borrow.Author.Needs.{needs}
 use borrow.Author.Tests.{eq-eqb, ne-eqb}
-use Rattle.rules.specs.Checks.{among}
+use Rattle.lent_lists.specs.Among.{among}
 use Rattle.checks.proofs.Numbers.{among-left, among-none}
 use Rattle.checks.proofs.stands_earlier.Statement.{statement}
 use Rattle.checks.proofs.stands_earlier.Tie as tie
