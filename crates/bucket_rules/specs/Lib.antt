@@ -1,6 +1,6 @@
 -- The bucket rules, in the order in which a reader takes them.
-pub mod Answers
 pub mod Buckets
+pub mod Answers
 pub mod Calls
 pub mod Stamps
 pub mod Trial

@@ -1,5 +1,5 @@
 // The types that the bucket rules speak of. Code, contracts and definitions share them; the rules themselves are the definitions in
-// specs/, which a reader takes in this order: Answers, Buckets, Calls, Stamps, and then Examples, where they are tried.
+// specs/, which a reader takes in this order: Buckets, Answers, Calls, Stamps, and then Examples, where they are tried.
 
 // The answers, a variant for each number that an operator sees (specs/Answers.antt gives number and named value).
 pub enum Answer {

@@ -1,5 +1,5 @@
 // The types that the lane rules speak of. Code, contracts and definitions share them; the rules themselves are the definitions in
-// specs/, which a reader takes in this order: Answers, Steps, Passes, Rounds, Calls, and then Examples, where they are tried.
+// specs/, which a reader takes in this order: Steps, Passes, Rounds, Answers, Calls, and then Examples, where they are tried.
 
 // One node as its lanes are being detached. The numbers come from outside, so the two flags are numbers too: 0, or 1 where they
 // are set. Attached and window are masks of 32 lanes: lane l is bit l.
