@@ -12,7 +12,7 @@ use Rattle.booleans.proofs.Tests.{by-cases, or-left, or-right, or-cases, neithe
 use Rattle.bucket_rules.specs.declared.Answer.{Answer}
 use Rattle.bucket_rules.specs.declared.Verdict.{Verdict}
 use Rattle.bucket_rules.specs.Buckets.{distinct, numbersFor}
-use Rattle.bucket_rules.specs.Calls.{mostInput, mostBuckets, overLimits, shortOutput, shortScratch, rangeCheck, checks, decided}
+use Rattle.bucket_rules.specs.Calls.{mostInput, mostBuckets, overLimits, shortOutput, shortScratch, rangeCheck, checks, settled}
 use Rattle.bucket_rules.specs.Calls.{answerOf, sortOf, bitmapOf}
 use Rattle.bucket_laws.specs.Clauses.{InRange, FirstInvalid, WithinLimits, OverLimits, OutputRoom, OutputShort, ScratchRoom}
 use Rattle.bucket_laws.specs.Clauses.{ScratchShort, BitmapRoom, BitmapShort, Answers, SortAnswers, BitmapAnswers}
@@ -106,7 +106,7 @@ module _ (input : List ℕ) (count : ℕ) (short : Bool) (Short Room : Type 0)
   unfolding answerOf checks
   found =
       let n = length (distinct input count) in
-      let P : Verdict → Type 0 = λ v. Found (decided v n) in
+      let P : Verdict → Type 0 = λ v. Found (settled v n) in
       by-cases P (overLimits input count)
       (λ h. Answers.limits (over-limits-exactly input count .0 h))
       (λ h. by-cases P short
@@ -115,7 +115,7 @@ module _ (input : List ℕ) (count : ℕ) (short : Bool) (Short Room : Type 0)
     where
       go :
           WithinLimits input count → Room → (v : Verdict) → Ranged input count v →
-          Found (decided v (length (distinct input count)))
+          Found (settled v (length (distinct input count)))
       go w r v (Ranged.inside i) = Answers.accepted w r i refl
       go w r v (Ranged.outside f) = Answers.range w r f
 

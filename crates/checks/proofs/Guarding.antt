@@ -12,7 +12,7 @@ use Rattle.rules.specs.declared.Guard.{Guard}
 use Rattle.rules.specs.declared.Answer.{Answer}
 use Rattle.rules.specs.declared.Verdict.{Verdict}
 use Rattle.rules.specs.Orders.{noChange}
-use Rattle.rules.specs.Checks.{must, orElse, firstFailing, heldKey, guarded}
+use Rattle.rules.specs.Checks.{must, orElse, firstFailing, keyHeld, guarded}
 use Rattle.laws.proofs.Left.{item-left}
 use Rattle.checks.specs.Guarding.{keysHeld, firstUnheld, bindingsFrom}
 
@@ -46,18 +46,18 @@ pub unheld-known :
 unfolding bindingsFrom firstUnheld firstFailing guarded
 unheld-known bindings gs i [] = refl
 unheld-known bindings gs i (c ∷ cs) =
-    go (keysHeld gs c) (and-assoc (ltb (c .binding) bindings) (heldKey (c .binding) (c .before) gs) (heldKey (c .binding) (c .after) gs))
+    go (keysHeld gs c) (and-assoc (ltb (c .binding) bindings) (keyHeld (c .binding) (c .before) gs) (keyHeld (c .binding) (c .after) gs))
     (unheld-known bindings gs (i + 1) cs)
   where
     Below : Bool
     Below = ltb (c .binding) bindings
 
     go :
-        (b : Bool) → (Below && heldKey (c .binding) (c .before) gs && heldKey (c .binding) (c .after) gs) ≡ (Below && b) →
+        (b : Bool) → (Below && keyHeld (c .binding) (c .before) gs && keyHeld (c .binding) (c .after) gs) ≡ (Below && b) →
         bindingsFrom bindings (firstUnheld gs (i + 1) cs) (i + 1) cs ≡ firstFailing (guarded bindings gs) (λ i change. Answer.Guard i) (i + 1) cs →
         orElse (must (not (eqb i (cond b (firstUnheld gs (i + 1) cs) i)) && Below) (Answer.Guard i))
         (bindingsFrom bindings (cond b (firstUnheld gs (i + 1) cs) i) (i + 1) cs) ≡
-        orElse (must (Below && heldKey (c .binding) (c .before) gs && heldKey (c .binding) (c .after) gs) (Answer.Guard i))
+        orElse (must (Below && keyHeld (c .binding) (c .before) gs && keyHeld (c .binding) (c .after) gs) (Answer.Guard i))
         (firstFailing (guarded bindings gs) (λ i change. Answer.Guard i) (i + 1) cs)
     go true e ih =
         let later : i ≡ firstUnheld gs (i + 1) cs → ⊥ = λ s. let n = not-before gs (i + 1) cs in omega arith in

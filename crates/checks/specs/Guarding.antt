@@ -11,7 +11,7 @@ use Rattle.rules.specs.declared.Answer.{Answer}
 use Rattle.rules.specs.declared.Verdict.{Verdict}
 use Rattle.rules.specs.Limits.{mostChanges}
 use Rattle.rules.specs.Orders.{changes, properChanges}
-use Rattle.rules.specs.Checks.{must, orElse, heldKey}
+use Rattle.rules.specs.Checks.{must, orElse, keyHeld}
 
 -- a well-formed change list, not over its limit, beside guards that are proper or not
 abbrev pub properBeside : List ℕ → Bool → Bool
@@ -19,7 +19,7 @@ properBeside cs paired = properChanges cs && leb (length (changes cs)) mostChang
 
 -- every named key of a change is held
 abbrev pub keysHeld : List Guard → Change → Bool
-keysHeld gs c = heldKey (c .binding) (c .before) gs && heldKey (c .binding) (c .after) gs
+keysHeld gs c = keyHeld (c .binding) (c .before) gs && keyHeld (c .binding) (c .after) gs
 
 -- the first change, numbered from i on, with a named key that is not held; past the last where there is none
 unfoldable pub firstUnheld : List Guard → ℕ → List Change → ℕ

@@ -17,7 +17,7 @@ ghost use lib.Dec.{eqb, ltb};
 ghost use Rattle.rules.specs.declared.Answer.{Answer};
 ghost use Rattle.rules.specs.Limits.{mostChanges};
 ghost use Rattle.rules.specs.Orders.{properKey, properChanges, properGuards, guards, changes, held, destinationOf};
-ghost use Rattle.rules.specs.Checks.{firstFailing, heldKey, guarded, isNamed, recordable, among, recordFrom};
+ghost use Rattle.rules.specs.Checks.{firstFailing, keyHeld, guarded, isNamed, recordable, among, recordFrom};
 ghost use Rattle.checks.specs.Keys.{properAt};
 ghost use Rattle.checks.specs.Guarding.{properBeside, bindingsFrom};
 
@@ -105,7 +105,7 @@ fn is_held(pairs: &[u32], binding: u32, key: u32) -> bool
 
 // A named key is held; none need not be.
 fn key_held(pairs: &[u32], binding: u32, key: Key) -> bool
-    ensures { λ r. ⌜ r ≡ heldKey binding key (guards (now (pairs .entry))) ⌝ }
+    ensures { λ r. ⌜ r ≡ keyHeld binding key (guards (now (pairs .entry))) ⌝ }
 {
     match key {
         Key::Missing => true,

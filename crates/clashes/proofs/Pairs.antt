@@ -12,7 +12,7 @@ use Rattle.rules.specs.declared.Answer.{Answer}
 use Rattle.rules.specs.declared.Verdict.{Verdict}
 use Rattle.rules.specs.Postings.{same}
 use Rattle.rules.specs.Orders.{destinationOf, Numbered, named, destinationsFrom, destinations, noChange}
-use Rattle.rules.specs.Checks.{must, orElse, firstFailing, equalTo, twiceFrom}
+use Rattle.rules.specs.Checks.{must, orElse, firstFailing, firstEqual, twiceFrom}
 use Rattle.changes.proofs.Walk.{destinations-left, destinations-none, destinations-behind}
 use Rattle.clashes.specs.Keys.{underKey, oneDestination}
 use Rattle.clashes.proofs.Named.{firstOf, first-destination, no-destination}
@@ -36,7 +36,7 @@ sought-missing j i (e ∷ earlier) = sought-missing j (i + 1) earlier
 twice-named :
     (j : ℕ) (c : Change) (key : Key) (earlier others : List Numbered) →
     twiceFrom earlier (named j c key others) ≡ orElse (sought j c key earlier) (twiceFrom (earlier ++ named j c key []) others)
-unfolding twiceFrom equalTo sought
+unfolding twiceFrom firstEqual sought
 twice-named j c Key.Missing earlier others = rw (sought-missing j 0 earlier, append-nil earlier)
 twice-named j c (Key.Named key) earlier others = refl
 

@@ -16,7 +16,7 @@ use Rattle.rules.specs.declared.Change.{Change}
 use Rattle.rules.specs.declared.Guard.{Guard}
 use Rattle.rules.specs.Limits.{mostChanges, mostGuards}
 use Rattle.rules.specs.Orders.{changes, guards, properChanges, properGuards, properLists, held, noChange}
-use Rattle.rules.specs.Checks.{heldKey}
+use Rattle.rules.specs.Checks.{keyHeld}
 use Rattle.checks.specs.Guarding.{firstUnheld}
 use Rattle.refusals.specs.Lending.{LookedAt}
 use Rattle.entry.specs.declared.guarding.Wanted.{Wanted}
@@ -114,7 +114,7 @@ asked-within n list place l = go (leb (length (changes list)) mostChanges && leb
     go true h = h
     go false h = absurd (omega arith)
 
-wanted-held : (gs : List Guard) (binding : ℕ) (key : Key) → wantedHeld gs (wantedOf binding key) ≡ heldKey binding key gs
+wanted-held : (gs : List Guard) (binding : ℕ) (key : Key) → wantedHeld gs (wantedOf binding key) ≡ keyHeld binding key gs
 wanted-held gs binding Key.Missing = refl
 wanted-held gs binding (Key.Named key) = refl
 
@@ -123,12 +123,12 @@ module _ (gs : List Guard) (cs : List Change) (i : ℕ) where
   abbrev c : Change
   c = getD cs i noChange
 
-  before-place : wantedHeld gs (wantedAt cs (i * 2)) ≡ heldKey (c .binding) (c .before) gs
+  before-place : wantedHeld gs (wantedAt cs (i * 2)) ≡ keyHeld (c .binding) (c .before) gs
   before-place =
       let h : i * 2 / 2 ≡ i = omega arith in
       rw (h, eq-eqb (i * 2 % 2) 0 (omega arith)) (wanted-held gs (c .binding) (c .before))
 
-  after-place : wantedHeld gs (wantedAt cs (suc (i * 2))) ≡ heldKey (c .binding) (c .after) gs
+  after-place : wantedHeld gs (wantedAt cs (suc (i * 2))) ≡ keyHeld (c .binding) (c .after) gs
   after-place =
       let h : suc (i * 2) / 2 ≡ i = omega arith in
       let o : suc (i * 2) % 2 ≡ 0 → ⊥ = λ e. omega arith in
@@ -149,7 +149,7 @@ unheld-change gs cs (suc m) i e =
     let ih = unheld-change gs cs m (i + 1) (omega arith) in
     let next : (i + 1) * 2 ≡ suc (suc (i * 2)) = omega arith in
     rw (two, drop-cons cs i noChange l, before-place gs cs i, after-place gs cs i)
-    (go (heldKey (c gs cs i .binding) (c gs cs i .before) gs) (heldKey (c gs cs i .binding) (c gs cs i .after) gs) (rw (next, add-one i) at ih))
+    (go (keyHeld (c gs cs i .binding) (c gs cs i .before) gs) (keyHeld (c gs cs i .binding) (c gs cs i .after) gs) (rw (next, add-one i) at ih))
   where
     go :
         (b a : Bool) → unheldFrom gs cs (suc (suc (i * 2))) (m * 2) / 2 ≡ firstUnheld gs (suc i) (drop (suc i) cs) →

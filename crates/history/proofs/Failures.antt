@@ -19,7 +19,7 @@ use Rattle.rules.specs.declared.Answer.{Answer}
 use Rattle.rules.specs.declared.Verdict.{Verdict}
 use Rattle.rules.specs.Postings.{present}
 use Rattle.rules.specs.Table.{capacity}
-use Rattle.rules.specs.Orders.{Numbered, postingsOf, numbersOf, Call}
+use Rattle.rules.specs.Orders.{Numbered, postingsOf, changeNumbers, Call}
 use Rattle.rules.specs.Answers.{toldOf, poisons, settled}
 use Rattle.rules.specs.Checks.{stripCheck, publishChecks, removalChecks, prepareChecks, rollbackChecks}
 use Rattle.rules.specs.Publication.{Stage, rolledBack}
@@ -105,7 +105,7 @@ module _ (head : Head) (table : List ℕ) (c : Call) where
           not-refused (publishChecks head table c) a 13 (publish-proper head table c) e (rw k at n) refl
       go o n (Published.taken e r l k) = let z : _≡_ {A = ℕ} 0 13 = rw k at n in absurd (omega arith)
       go o n (Published.halted e r l k) =
-          source-leaves (written (numbersOf (going c)) (c .recordList)) (going c) (l .at) o (l .there) (ready-quiet head table c (l .at) r (l .quiet)) (l .fault)
+          source-leaves (written (changeNumbers (going c)) (c .recordList)) (going c) (l .at) o (l .there) (ready-quiet head table c (l .at) r (l .quiet)) (l .fault)
           (k
           ∙ shown-poisoned _ (sourcesGone head table c) _ _ (l .answers) refl
           (halts-leaves (c .strip) _ (leaving c) (length (going c)) (l .at) _ (l .there) (l .quiet) (l .fault) (publish-bytes e _)))

@@ -13,7 +13,7 @@ use Rattle.rules.specs.declared.Posting.{Posting}
 use Rattle.rules.specs.declared.Head.{Head}
 use Rattle.rules.specs.declared.Answer.{Answer}
 use Rattle.rules.specs.declared.Verdict.{Verdict}
-use Rattle.rules.specs.Postings.{ascending, present, bucket, counted}
+use Rattle.rules.specs.Postings.{ascending, present, rowsUnder, counted}
 use Rattle.rules.specs.Table.{postings, wellFormed}
 use Rattle.rules.specs.Orders.{destinations, sources, Call, changesOf}
 use Rattle.rules.specs.Answers.{isAccepted, poisons, settled}
@@ -25,7 +25,7 @@ use Rattle.laws.proofs.Flat.{well-formed-parts, used-postings, laid-out-same, p
 use Rattle.laws.proofs.Answers.{Kind, kind}
 use Rattle.laws.proofs.Checks.{first-passes, rest-passes, cons-passes}
 use Rattle.laws.proofs.Sets.{present-said}
-use Rattle.laws.proofs.Rows.{bucket-among, bucket-rising}
+use Rattle.laws.proofs.Rows.{rows-among, rows-rising}
 use Rattle.laws.proofs.Calls.{publish-as-before, publish-well-formed, publish-stable, publish-poisoned, count-poisoned}
 use Rattle.history.specs.Acceptance.{Acceptable}
 use Rattle.history.specs.History.{Index, published, countedIn, postingsIn, indexOf, after, outcomes, unbroken, accepted, acceptedOutcomes, said, saidOf, ownCount, holding, quiet, Again, AllAgain, none, next, Holds, Alike, Right, Withheld, RightOrWithheld}
@@ -384,11 +384,11 @@ module _ (x : Index) (start : List Posting) (e : Holds x start) where
             live-count (after x cs) (live-after x cs (holds-live x start e) h) binding key ∙ rw (bindings-after x cs, held-now cs h);
         rows = λ binding key.
             record {
-              rows = bucket binding key (said (accepted x cs) start);
+              rows = rowsUnder binding key (said (accepted x cs) start);
               count = refl;
-              ascends = bucket-rising binding key (said (accepted x cs) start) (sorted-now cs h);
+              ascends = rows-rising binding key (said (accepted x cs) start) (sorted-now cs h);
               said = λ row.
-                  bucket-among binding key row (said (accepted x cs) start)
+                  rows-among binding key row (said (accepted x cs) start)
                   ∙ said-set (accepted x cs) start (record { binding = binding; key = key; row = row });
             };
         again = again-now cs h;

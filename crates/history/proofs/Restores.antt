@@ -13,7 +13,7 @@ use Rattle.rules.specs.declared.Head.{Head}
 use Rattle.rules.specs.declared.Answer.{Answer}
 use Rattle.rules.specs.declared.Verdict.{Verdict}
 use Rattle.rules.specs.Table.{postings, laidOut}
-use Rattle.rules.specs.Orders.{Numbered, destinations, numbersOf, recorded, Call, changesOf}
+use Rattle.rules.specs.Orders.{Numbered, destinations, changeNumbers, recorded, Call, changesOf}
 use Rattle.rules.specs.Answers.{isAccepted, poisons, settled}
 use Rattle.rules.specs.Checks.{tableCheck, poisonCheck, listCheck, stripCheck, guardCheck, recordCheck, prepareChecks, rollbackChecks}
 use Rattle.rules.specs.Publication.{Stage, rolledBack}
@@ -36,10 +36,10 @@ module _ (head : Head) (table : List ℕ) (c : Call) (strip : List ℕ) (ok : is
   clear = prepare-clear head table c (well .passes)
 
   -- the part that is lent is the record itself
-  part-record : backOf c (prepareOf head table c) strip .recordList ≡ numbersOf (destinations (changesOf c))
+  part-record : backOf c (prepareOf head table c) strip .recordList ≡ changeNumbers (destinations (changesOf c))
   part-record =
       ap (λ (o : Outcome). take (length (destinations (changesOf c))) (o .recordList)) (well .whole)
-      ∙ take-at (numbersOf (destinations (changesOf c))) (drop (length (numbersOf (destinations (changesOf c)))) (c .recordList))
+      ∙ take-at (changeNumbers (destinations (changesOf c))) (drop (length (changeNumbers (destinations (changesOf c)))) (c .recordList))
       (length (destinations (changesOf c)))
       (length-map (destinations (changesOf c)) (λ (d : Numbered). d .number))
 

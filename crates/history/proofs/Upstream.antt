@@ -14,11 +14,11 @@ use Rattle.rules.specs.declared.Answer.{Answer}
 use Rattle.rules.specs.declared.Verdict.{Verdict}
 use Rattle.rules.specs.Postings.{present}
 use Rattle.rules.specs.Table.{capacity, postings, laidOut}
-use Rattle.rules.specs.Orders.{Numbered, destinations, sources, postingsOf, numbersOf, recorded, Call, changesOf}
+use Rattle.rules.specs.Orders.{Numbered, destinations, sources, postingsOf, changeNumbers, recorded, Call, changesOf}
 use Rattle.rules.specs.Answers.{isAccepted, poisons}
 use Rattle.rules.specs.Checks.{prepareChecks, rollbackChecks, removalChecks}
 use Rattle.rules.specs.Publication.{Stage, rolledBack}
-use Rattle.rules.specs.Calls.{Outcome, asBefore, decided, shown, prepared, prepareOf, rollbackOf, removalOf}
+use Rattle.rules.specs.Calls.{Outcome, asBefore, unlessRefused, shown, prepared, prepareOf, rollbackOf, removalOf}
 use Rattle.laws.specs.Words.{postingsBefore, isRefusal, added, takenAway, RemovedOnly, Stable, isUnchanged}
 use Rattle.booleans.proofs.Tests.{clash}
 use Rattle.laws.proofs.Flat.{postings-laid-out}
@@ -35,7 +35,7 @@ use Rattle.laws.proofs.Sets.{present-added, present-taken-away}
 use Rattle.laws.proofs.Outcomes.{going, leaving, recordedBack, undid, removedAlone, stop-not-accepted, Prepares, prepares, RollsBack, rolls-back, Removes, removes}
 use Rattle.history.specs.Upstream.{postingsLeft, Valid, UniqueDestinations, Disjoint, ValidIndices, Errors, RollbackClauses, PrepareClauses, RemovalClauses, PrefixRecord}
 
-pub prefix-record : (cs : List Change) → PrefixRecord cs (numbersOf (destinations cs))
+pub prefix-record : (cs : List Change) → PrefixRecord cs (changeNumbers (destinations cs))
 prefix-record cs =
     record {
       indices = record-taken cs;
@@ -76,7 +76,7 @@ module _ (head : Head) (table : List ℕ) (c : Call) where
 
   decided-left :
       (P : List Posting → Type 0) (v : Verdict) (list : List ℕ) (s : Stage) → P (postingsBefore head table) → P (s .postings) →
-      P (postingsLeft (decided v (asBefore head table (c .recordList)) (shown head table list s)))
+      P (postingsLeft (unlessRefused v (asBefore head table (c .recordList)) (shown head table list s)))
   decided-left P Verdict.Passes list s h k = shown-left P s k
   decided-left P (Verdict.Refused a) list s h k = h
 
@@ -89,7 +89,7 @@ module _ (head : Head) (table : List ℕ) (c : Call) where
   -- a call that no check refused has passed them all
   decided-passes :
       (v : Verdict) (o : Outcome) → isProper v ≡ true →
-      isRefusal (decided v (asBefore head table (c .recordList)) o .answer) ≡ false → v ≡ Verdict.Passes
+      isRefusal (unlessRefused v (asBefore head table (c .recordList)) o .answer) ≡ false → v ≡ Verdict.Passes
   decided-passes Verdict.Passes o p h = refl
   decided-passes (Verdict.Refused a) o p h = absurd (clash (isRefusal a) p h)
 
@@ -136,7 +136,7 @@ module _ (head : Head) (table : List ℕ) (c : Call) where
     pub passes : prepareChecks head table c ≡ Verdict.Passes
     pub postings : postingsLeft o ≡ added (going c) (postingsBefore head table)
     pub named : o .answer ≡ Answer.Accepted (length (going c))
-    pub whole : o ≡ shown head table (written (numbersOf (going c)) (c .recordList)) (prepared head table c)
+    pub whole : o ≡ shown head table (written (changeNumbers (going c)) (c .recordList)) (prepared head table c)
     pub leaves : prepared head table c .postings ≡ added (going c) (postingsBefore head table)
 
   pub prepare-accepted : isAccepted (prepareOf head table c .answer) ≡ true → PreparedWell (prepareOf head table c)

@@ -14,7 +14,7 @@ use Rattle.rules.specs.declared.Answer.{Answer}
 use Rattle.rules.specs.declared.Verdict.{Verdict}
 use Rattle.rules.specs.Postings.{present, ascending, counted}
 use Rattle.rules.specs.Table.{capacity, postings, laidOut}
-use Rattle.rules.specs.Orders.{Numbered, destinations, sources, postingsOf, numbersOf, recorded, Call, changesOf}
+use Rattle.rules.specs.Orders.{Numbered, destinations, sources, postingsOf, changeNumbers, recorded, Call, changesOf}
 use Rattle.rules.specs.Checks.{prepareChecks, rollbackChecks, removalChecks, publishChecks, countChecks}
 use Rattle.rules.specs.Calls.{Outcome}
 use Rattle.laws.specs.Words.{numberAt, Quiet, Noisy}
@@ -109,7 +109,7 @@ pub record Leaves (head : Head) (table : List ℕ) (c : Call) (o : Outcome) : Ty
   pub answer : o .answer ≡ Answer.Accepted (length (destinations (changesOf c)))
   pub bindings : o .head .bindings ≡ head .bindings
   pub poisoned : o .head .poisoned ≡ head .poisoned
-  pub recordList : o .recordList ≡ written (numbersOf (destinations (changesOf c))) (c .recordList)
+  pub recordList : o .recordList ≡ written (changeNumbers (destinations (changesOf c))) (c .recordList)
   pub set : (p : Posting) → present p (postings (o .head .used) (o .table)) ≡ leavesIn head table c p
   pub list :
       (l : List Posting) → ascending l ≡ true → ((p : Posting) → present p l ≡ leavesIn head table c p) →

@@ -13,7 +13,7 @@ use Rattle.rules.specs.declared.Head.{Head}
 use Rattle.rules.specs.declared.Answer.{Answer}
 use Rattle.rules.specs.Postings.{same, present}
 use Rattle.rules.specs.Table.{capacity, laidOut}
-use Rattle.rules.specs.Orders.{Numbered, destinations, sources, postingsOf, numbersOf, recorded, Call, changesOf}
+use Rattle.rules.specs.Orders.{Numbered, destinations, sources, postingsOf, changeNumbers, recorded, Call, changesOf}
 use Rattle.rules.specs.Calls.{Outcome, headWith}
 use Rattle.laws.specs.Words.{postingsBefore, added, takenAway, nowhere, numberAt, Quiet, Noisy}
 use Rattle.history.specs.Acceptance.{Fails}
@@ -64,7 +64,7 @@ module _ (head : Head) (table : List ℕ) (c : Call) where
   -- 13 of publish: the record is written
   abbrev pub PublishSourceLeaves : Outcome → Type 0
   PublishSourceLeaves o =
-      SourceLeaves head table (written (numbersOf (destinations (changesOf c))) (c .recordList)) (c .strip) (destinations (changesOf c))
+      SourceLeaves head table (written (changeNumbers (destinations (changesOf c))) (c .recordList)) (c .strip) (destinations (changesOf c))
       (sources (changesOf c))
       o
 

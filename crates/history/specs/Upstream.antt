@@ -13,7 +13,7 @@ use Rattle.rules.specs.declared.Change.{Change}
 use Rattle.rules.specs.declared.Verdict.{Verdict}
 use Rattle.rules.specs.Postings.{present}
 use Rattle.rules.specs.Table.{postings}
-use Rattle.rules.specs.Orders.{guards, destinations, sources, postingsOf, numbersOf, noChange, recorded, Call, changesOf}
+use Rattle.rules.specs.Orders.{guards, destinations, sources, postingsOf, changeNumbers, noChange, recorded, Call, changesOf}
 use Rattle.rules.specs.Answers.{isAccepted, poisons}
 use Rattle.rules.specs.Checks.{guarded, recordable, among, recordFrom}
 use Rattle.rules.specs.Calls.{Outcome, asBefore}
@@ -87,8 +87,8 @@ module _ (head : Head) (table : List ℕ) (c : Call) where
         isAccepted (o .answer) ≡ true → (p : Posting) →
         present p (postingsLeft o) ≡ (present p (postingsBefore head table) || present p destinationSet)
     pub okRecord :
-        isAccepted (o .answer) ≡ true → o .recordList ≡ written (numbersOf (destinations (changesOf c))) (c .recordList)
-    pub okNamed : isAccepted (o .answer) ≡ true → o .answer ≡ Answer.Accepted (length (numbersOf (destinations (changesOf c))))
+        isAccepted (o .answer) ≡ true → o .recordList ≡ written (changeNumbers (destinations (changesOf c))) (c .recordList)
+    pub okNamed : isAccepted (o .answer) ≡ true → o .answer ≡ Answer.Accepted (length (changeNumbers (destinations (changesOf c))))
     pub errors : Errors o
     pub keeps : (p : Posting) → present p (postingsBefore head table) ≡ true → present p (postingsLeft o) ≡ true
     pub inside :

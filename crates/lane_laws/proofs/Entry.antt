@@ -15,7 +15,7 @@ use Rattle.lane_rules.specs.declared.View.{View}
 use Rattle.lane_rules.specs.declared.Answer.{Answer}
 use Rattle.lane_rules.specs.declared.Verdict.{Verdict}
 use Rattle.lane_rules.specs.declared.Done.{Done}
-use Rattle.lane_rules.specs.Calls.{badHeight, badView, badWindow, badStrip, refuse, detachChecks, refreshedChecks, unlessRefused}
+use Rattle.lane_rules.specs.Calls.{badHeight, badView, badWindow, badStrip, refuse, entryChecks, refreshedChecks, unlessRefused}
 use Rattle.lane_laws.specs.Clauses.{Valid, isRefusal, Entry, DetachEntry, RefreshedEntry}
 
 -- 20 and 21 pass for a valid view only
@@ -125,12 +125,12 @@ entry-passed v Asked strip (Entry.passes r a s) = (r, a, s)
 
 module _ (v : View) (strip : List ℕ) where
   -- each verdict of the cached pass and of detach, exactly in its place
-  pub detach-entry : (w : Verdict) → (detachChecks v strip ≡ w) ↔ DetachEntry v strip w
-  unfolding detachChecks
+  pub detach-entry : (w : Verdict) → (entryChecks v strip ≡ w) ↔ DetachEntry v strip w
+  unfolding entryChecks
   detach-entry w = entry v strip (Unit {0}) false (λ r e. tt) (λ a. refl) w
 
   -- their checks pass exactly for a valid view and a proper strip
-  pub detach-passes : (detachChecks v strip ≡ Verdict.Passes) ↔ (Valid v × (properStrip strip ≡ true))
+  pub detach-passes : (entryChecks v strip ≡ Verdict.Passes) ↔ (Valid v × (properStrip strip ≡ true))
   detach-passes =
       let e = detach-entry Verdict.Passes in (
         λ h. let p = entry-passed v (Unit {0}) strip (e .0 h) in (p .0, p .2),
@@ -140,8 +140,8 @@ module _ (v : View) (strip : List ℕ) where
   -- what holds of each refusal, and of the work on a valid view, holds of the outcome
   pub detach-cases :
       (P : Done → Type 0) (work : Done) → ((a : Answer) → isRefusal a ≡ true → P (record { answer = a; view = v })) →
-      (Valid v → P work) → P (unlessRefused (detachChecks v strip) v work)
-  unfolding detachChecks
+      (Valid v → P work) → P (unlessRefused (entryChecks v strip) v work)
+  unfolding entryChecks
   detach-cases P work refused f = by-entry v strip (Unit {0}) false (λ r e. tt) (λ a. refl) P work refused (λ r a. f r)
 
   -- each verdict of the refreshed pass, exactly in its place

@@ -24,7 +24,7 @@ use Rattle.lane_rules.specs.Answers.{toldOf, isAccepted}
 use Rattle.lane_rules.specs.Steps.{compared, refreshed}
 use Rattle.lane_rules.specs.Passes.{bySaid, failed, cachedPass, tryLane, refreshedFrom, refreshedPass}
 use Rattle.lane_rules.specs.Rounds.{round, rounds, detaching}
-use Rattle.lane_rules.specs.Calls.{detachChecks, refreshedChecks, unlessRefused, passed, cachedOf, refreshedOf, detachOf}
+use Rattle.lane_rules.specs.Calls.{entryChecks, refreshedChecks, unlessRefused, passed, cachedOf, refreshedOf, detachOf}
 use Rattle.lane_laws.specs.Clauses.{AllBelow, Says, isRefusal, Entry}
 use Rattle.lane_laws.specs.Ends.{cachedWork, refreshedWork, detachWork, Clean, Fault, Heard, RefusedWith}
 use Rattle.lane_laws.specs.Ends.{PassEnds, said-yes, said-no, said-error, Ends, yes, error, spent, MetNoError, Retired}
@@ -245,7 +245,7 @@ pass-ends strip v p f heard =
 
 module _ (v : View) (strip : List ℕ) where
   -- a refused cached pass tells its number and the value 0, and leaves all as before
-  pub cached-refused : (a : Answer) → detachChecks v strip ≡ Verdict.Refused a → RefusedWith a v (cachedOf v strip)
+  pub cached-refused : (a : Answer) → entryChecks v strip ≡ Verdict.Refused a → RefusedWith a v (cachedOf v strip)
   unfolding cachedOf
   cached-refused a h = refused-with v _ strip a _ _ h (detach-entry v strip (Verdict.Refused a) .0 h)
 
@@ -256,13 +256,13 @@ module _ (v : View) (strip : List ℕ) where
 
   -- and a refused detach
   pub detach-refused :
-      (lent : ℕ) (a : Answer) → detachChecks v strip ≡ Verdict.Refused a → RefusedWith a v (detachOf v strip lent)
+      (lent : ℕ) (a : Answer) → entryChecks v strip ≡ Verdict.Refused a → RefusedWith a v (detachOf v strip lent)
   unfolding detachOf
   detach-refused lent a h = refused-with v _ strip a _ _ h (detach-entry v strip (Verdict.Refused a) .0 h)
 
   -- a cached pass tells 1, with no lane attached, or 0, or is 24 at an error byte
   pub cached-ends :
-      detachChecks v strip ≡ Verdict.Passes →
+      entryChecks v strip ≡ Verdict.Passes →
       PassEnds strip (cachedOf v strip .view .attached) (cachedWork v strip .read) (cachedOf v strip .answer)
   unfolding cachedOf
   cached-ends h =
@@ -327,7 +327,7 @@ module _ {strip : List ℕ} {lent from attached read : ℕ} where
   lent-of (error m k g) n o = absurd (other-number o (omega arith))
   lent-of (spent c) n o = sym (ap (λ (a : Answer). toldOf a .value) o)
 
-module _ (v : View) (strip : List ℕ) (lent : ℕ) (passes : detachChecks v strip ≡ Verdict.Passes) where
+module _ (v : View) (strip : List ℕ) (lent : ℕ) (passes : entryChecks v strip ≡ Verdict.Passes) where
   -- a detach is accepted, with no lane attached, or is 24 at an error byte, or 25 with the rounds lent, and no other answer
   pub detach-ends :
       Ends strip lent 0 (detachOf v strip lent .view .attached) (detachWork v strip lent .read) (detachOf v strip lent .answer)

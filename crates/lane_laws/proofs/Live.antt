@@ -18,7 +18,7 @@ use Rattle.lane_rules.specs.declared.Verdict.{Verdict}
 use Rattle.lane_rules.specs.Answers.{toldOf, isAccepted}
 use Rattle.lane_rules.specs.Passes.{cachedPass}
 use Rattle.lane_rules.specs.Rounds.{round, rounds, detaching}
-use Rattle.lane_rules.specs.Calls.{detachChecks, ended, unlessRefused, detachOf}
+use Rattle.lane_rules.specs.Calls.{entryChecks, ended, unlessRefused, detachOf}
 use Rattle.lane_laws.specs.Clauses.{AllBelow, isRefusal}
 use Rattle.lane_laws.specs.Ends.{detachWork, NoErrors, Clean, Ends, yes, error, spent, MetNoError, HadRounds, Retired}
 use Rattle.lane_laws.specs.Ends.{roundsNeeded}
@@ -202,16 +202,16 @@ spent-or (Answer.Budget m) = inl (m, refl)
 module _ (v : View) (strip : List ℕ) where
   -- a detach that was refused did not end for want of rounds
   refused-otherwise :
-      (lent : ℕ) (a : Answer) → detachChecks v strip ≡ Verdict.Refused a → HadRounds (detachOf v strip lent .answer)
+      (lent : ℕ) (a : Answer) → entryChecks v strip ≡ Verdict.Refused a → HadRounds (detachOf v strip lent .answer)
   refused-otherwise lent a h n e =
       let r = detach-refused v strip lent a h in refused-had-rounds a (r .number) n (rw (r .same) at e)
 
   -- with two rounds more than half its strip's bytes, no detach ends for want of rounds
   pub rounds-suffice : (lent : ℕ) → length strip / 2 + 2 ≤ lent → HadRounds (detachOf v strip lent .answer)
   unfolding detachOf
-  rounds-suffice lent k = go (detachChecks v strip) refl
+  rounds-suffice lent k = go (entryChecks v strip) refl
     where
-      go : (c : Verdict) → detachChecks v strip ≡ c → HadRounds (detachOf v strip lent .answer)
+      go : (c : Verdict) → entryChecks v strip ≡ c → HadRounds (detachOf v strip lent .answer)
       go Verdict.Passes h =
           rw h (detaching-enough strip (v .height) lent (v .attached) (v .window) (detach-passes v strip .0 h .0 .below) k)
       go (Verdict.Refused a) h = refused-otherwise lent a h
@@ -219,7 +219,7 @@ module _ (v : View) (strip : List ℕ) where
   -- where the rounds lent were enough, lending more changes nothing
   pub more-rounds : (n m : ℕ) → n ≤ m → HadRounds (detachOf v strip n .answer) → detachOf v strip m ≡ detachOf v strip n
   unfolding detachOf
-  more-rounds n m k = go (detachChecks v strip)
+  more-rounds n m k = go (entryChecks v strip)
     where
       go :
           (c : Verdict) → HadRounds (unlessRefused c v (ended v (detachWork v strip n)) .answer) →
@@ -233,7 +233,7 @@ module _ (v : View) (strip : List ℕ) where
 
   -- where the rounds lent were too few, the detach needs more than those
   too-few :
-      (lent n : ℕ) → detachChecks v strip ≡ Verdict.Passes → detachOf v strip lent .answer ≡ Answer.Budget n →
+      (lent n : ℕ) → entryChecks v strip ≡ Verdict.Passes → detachOf v strip lent .answer ≡ Answer.Budget n →
       lent < roundsNeeded v strip
   unfolding detachOf
   too-few lent n h e =
@@ -244,20 +244,20 @@ module _ (v : View) (strip : List ℕ) where
 
   -- a detach not refused at entry that meets no storage error, with two rounds more than half its strip's bytes, ends retired
   pub detach-live :
-      (lent : ℕ) → detachChecks v strip ≡ Verdict.Passes → length strip / 2 + 2 ≤ lent →
+      (lent : ℕ) → entryChecks v strip ≡ Verdict.Passes → length strip / 2 + 2 ≤ lent →
       MetNoError (detachOf v strip lent .answer) → Retired (detachOf v strip lent)
   detach-live lent h k f =
       accepted-retired v strip lent h (must-accept (detach-ends v strip lent h) f (rounds-suffice lent k))
 
   -- the customer's demand: with two rounds more than its strip has bytes
   pub detach-retires :
-      (lent : ℕ) → detachChecks v strip ≡ Verdict.Passes → length strip + 2 ≤ lent →
+      (lent : ℕ) → entryChecks v strip ≡ Verdict.Passes → length strip + 2 ≤ lent →
       MetNoError (detachOf v strip lent .answer) → Retired (detachOf v strip lent)
   detach-retires lent h k f = detach-live lent h (omega arith) f
 
   -- where the strip has no error byte, it always ends retired
   pub no-errors-retire :
-      (lent : ℕ) → detachChecks v strip ≡ Verdict.Passes → length strip / 2 + 2 ≤ lent → NoErrors strip →
+      (lent : ℕ) → entryChecks v strip ≡ Verdict.Passes → length strip / 2 + 2 ≤ lent → NoErrors strip →
       Retired (detachOf v strip lent)
   no-errors-retire lent h k f =
       detach-live lent h k λ n e.
@@ -267,9 +267,9 @@ module _ (v : View) (strip : List ℕ) where
 
   -- no answer tells more rounds than were lent
   pub told-rounds : (lent : ℕ) → toldOf (detachOf v strip lent .answer) .value ≤ lent
-  told-rounds lent = go (detachChecks v strip) refl
+  told-rounds lent = go (entryChecks v strip) refl
     where
-      go : (c : Verdict) → detachChecks v strip ≡ c → toldOf (detachOf v strip lent .answer) .value ≤ lent
+      go : (c : Verdict) → entryChecks v strip ≡ c → toldOf (detachOf v strip lent .answer) .value ≤ lent
       go Verdict.Passes h = value-of (detach-ends v strip lent h)
       go (Verdict.Refused a) h =
           let r = detach-refused v strip lent a h in
@@ -292,9 +292,9 @@ module _ (v : View) (strip : List ℕ) where
   -- 25 tells exactly the rounds lent, and they were fewer than that
   pub out-of-rounds :
       (lent n : ℕ) → detachOf v strip lent .answer ≡ Answer.Budget n → (n ≡ lent) × (lent < length strip / 2 + 2)
-  out-of-rounds lent n e = (all (detachChecks v strip) refl, fewer (leb (length strip / 2 + 2) lent) refl)
+  out-of-rounds lent n e = (all (entryChecks v strip) refl, fewer (leb (length strip / 2 + 2) lent) refl)
     where
-      all : (c : Verdict) → detachChecks v strip ≡ c → n ≡ lent
+      all : (c : Verdict) → entryChecks v strip ≡ c → n ≡ lent
       all Verdict.Passes h = budget-lent v strip lent h n e
       all (Verdict.Refused a) h = absurd (refused-otherwise lent a h n e)
 
@@ -306,12 +306,12 @@ module _ (v : View) (strip : List ℕ) where
   pub budget-exactly :
       (lent : ℕ) → ((n : ℕ) × (detachOf v strip lent .answer ≡ Answer.Budget n)) ↔ (lent < roundsNeeded v strip)
   budget-exactly lent = (
-    λ e. short (detachChecks v strip) refl (e .0) (e .1),
+    λ e. short (entryChecks v strip) refl (e .0) (e .1),
     λ k. ⊎-elim (λ e. e) (λ h. absurd (enough k h)) (spent-or (detachOf v strip lent .answer)),
   )
     where
       short :
-          (c : Verdict) → detachChecks v strip ≡ c → (n : ℕ) → detachOf v strip lent .answer ≡ Answer.Budget n →
+          (c : Verdict) → entryChecks v strip ≡ c → (n : ℕ) → detachOf v strip lent .answer ≡ Answer.Budget n →
           lent < roundsNeeded v strip
       short Verdict.Passes h n e = too-few lent n h e
       short (Verdict.Refused a) h n e = absurd (refused-otherwise lent a h n e)
@@ -327,10 +327,10 @@ module _ (v : View) (strip : List ℕ) where
   pub detach-accepted-exactly :
       (lent : ℕ) →
       (isAccepted (detachOf v strip lent .answer) ≡ true)
-      ↔ ((detachChecks v strip ≡ Verdict.Passes) × Clean strip 0 (detachWork v strip lent .read) × (roundsNeeded v strip ≤ lent))
+      ↔ ((entryChecks v strip ≡ Verdict.Passes) × Clean strip 0 (detachWork v strip lent .read) × (roundsNeeded v strip ≤ lent))
   detach-accepted-exactly lent = (
     λ t.
-        let passes = unrefused (detachChecks v strip) refl t in
+        let passes = unrefused (entryChecks v strip) refl t in
         (passes, clean passes t, enough (leb (roundsNeeded v strip) lent) refl t),
     λ (h, c, k).
         must-accept (detach-ends v strip lent h)
@@ -344,15 +344,15 @@ module _ (v : View) (strip : List ℕ) where
   )
     where
       unrefused :
-          (c : Verdict) → detachChecks v strip ≡ c → isAccepted (detachOf v strip lent .answer) ≡ true →
-          detachChecks v strip ≡ Verdict.Passes
+          (c : Verdict) → entryChecks v strip ≡ c → isAccepted (detachOf v strip lent .answer) ≡ true →
+          entryChecks v strip ≡ Verdict.Passes
       unrefused Verdict.Passes h t = h
       unrefused (Verdict.Refused a) h t =
           let r = detach-refused v strip lent a h in
           absurd (clash (isAccepted a) (rw (r .same) at t) (refusal-not-accepted a (r .number)))
 
       clean :
-          detachChecks v strip ≡ Verdict.Passes → isAccepted (detachOf v strip lent .answer) ≡ true →
+          entryChecks v strip ≡ Verdict.Passes → isAccepted (detachOf v strip lent .answer) ≡ true →
           Clean strip 0 (detachWork v strip lent .read)
       clean h t i low k = else-clean v strip lent h (λ n e. clash false (rw e at t) refl) i k
 

@@ -20,7 +20,7 @@ use Rattle.lane_rules.specs.declared.Answer.{Answer}
 use Rattle.lane_rules.specs.declared.Verdict.{Verdict}
 use Rattle.lane_rules.specs.Steps.{compared}
 use Rattle.lane_rules.specs.Passes.{bySaid, failed, cachedPass, tryLane, refreshedFrom}
-use Rattle.lane_rules.specs.Calls.{detachChecks, refreshedChecks, cachedOf, refreshedOf}
+use Rattle.lane_rules.specs.Calls.{entryChecks, refreshedChecks, cachedOf, refreshedOf}
 use Rattle.lane_laws.specs.Clauses.{NoneBelow, Says}
 use Rattle.lane_laws.specs.Ends.{cachedWork, refreshedWork, Clean, Heard}
 use Rattle.lane_laws.specs.Ends.{byteFor, ComesTo, NoAt, ErrorAt, SomeNo, SomeError, lanesTried}
@@ -250,7 +250,7 @@ module _ (v : View) (strip : List ℕ) where
   -- the cached pass tells 0 exactly where it comes to a lane that is outside the window, or has byte 1, or has byte 0 and is not
   -- attached
   pub cached-no-exactly :
-      detachChecks v strip ≡ Verdict.Passes →
+      entryChecks v strip ≡ Verdict.Passes →
       (cachedOf v strip .answer ≡ Answer.Accepted 0) ↔ SomeNo strip (v .window) (v .attached) 0 (v .height)
   unfolding cachedOf
   cached-no-exactly h = (
@@ -260,7 +260,7 @@ module _ (v : View) (strip : List ℕ) where
 
   -- it is 24 exactly where it comes to a lane of the window whose byte is an error
   pub cached-offset-exactly :
-      detachChecks v strip ≡ Verdict.Passes →
+      entryChecks v strip ≡ Verdict.Passes →
       (cachedOf v strip .answer ≡ Answer.Offset 0) ↔ SomeError strip (v .window) (v .attached) 0 (v .height)
   unfolding cachedOf
   cached-offset-exactly h = (

@@ -9,7 +9,7 @@ use Rattle.lane_rules.specs.declared.Answer.{Answer}
 use Rattle.lane_rules.specs.declared.Verdict.{Verdict}
 use Rattle.lane_rules.specs.declared.Done.{Done}
 use Rattle.lane_rules.specs.Answers.{toldOf}
-use Rattle.lane_rules.specs.Calls.{detachChecks, refreshedChecks, unlessRefused, passed, cachedOf, refreshedOf, detachOf}
+use Rattle.lane_rules.specs.Calls.{entryChecks, refreshedChecks, unlessRefused, passed, cachedOf, refreshedOf, detachOf}
 use Rattle.lane_laws.specs.Clauses.{Valid, Entry, DetachEntry, RefreshedEntry}
 use Rattle.lane_laws.specs.Ends.{cachedWork, refreshedWork, Ends, yes, error, spent}
 use Rattle.lane_laws.specs.Ends.{OneOf, cachedNumbers, refreshedNumbers, detachNumbers}
@@ -24,8 +24,8 @@ number o = toldOf (o .answer) .answer
 module _ (v : View) (strip : List ℕ) (P : ℕ → Type 0) (work : Done) where
   -- a call with the checks of the cached pass and of detach answers with 20, 21, 23, or as its work does
   detach-number :
-      P 20 → P 21 → P 23 → (Valid v → P (number work)) → P (number (unlessRefused (detachChecks v strip) v work))
-  detach-number height view bytes f = go (detachChecks v strip) (detach-entry v strip (detachChecks v strip) .0 refl)
+      P 20 → P 21 → P 23 → (Valid v → P (number work)) → P (number (unlessRefused (entryChecks v strip) v work))
+  detach-number height view bytes f = go (entryChecks v strip) (detach-entry v strip (entryChecks v strip) .0 refl)
     where
       go : (c : Verdict) → DetachEntry v strip c → P (number (unlessRefused c v work))
       go c (Entry.height h) = height

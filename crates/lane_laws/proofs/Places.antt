@@ -14,7 +14,7 @@ use Rattle.lane_rules.specs.declared.Answer.{Answer}
 use Rattle.lane_rules.specs.declared.Verdict.{Verdict}
 use Rattle.lane_rules.specs.declared.Done.{Done}
 use Rattle.lane_rules.specs.Answers.{toldOf, isAccepted}
-use Rattle.lane_rules.specs.Calls.{detachChecks, refreshedChecks, cachedOf, refreshedOf, detachOf}
+use Rattle.lane_rules.specs.Calls.{entryChecks, refreshedChecks, cachedOf, refreshedOf, detachOf}
 use Rattle.lane_laws.specs.Ends.{PassEnds, said-yes, said-no, said-error, Ends, yes, error, spent, HadRounds, roundsNeeded}
 use Rattle.lane_laws.specs.Places.{CachedAnswers, RefreshedAnswers, DetachAnswers}
 use Rattle.lane_laws.proofs.Cases.{other-number}
@@ -28,10 +28,10 @@ use Rattle.lane_laws.proofs.Live.{more-rounds, bound-rounds, out-of-rou
 module _ (v : View) (strip : List ℕ) where
   -- the cached pass: its answer has its condition
   cached-found : CachedAnswers v strip (cachedOf v strip .answer)
-  cached-found = go (detachChecks v strip) refl
+  cached-found = go (entryChecks v strip) refl
     where
       worked :
-          {attached read : ℕ} (a : Answer) → detachChecks v strip ≡ Verdict.Passes → cachedOf v strip .answer ≡ a →
+          {attached read : ℕ} (a : Answer) → entryChecks v strip ≡ Verdict.Passes → cachedOf v strip .answer ≡ a →
           PassEnds strip attached read a → CachedAnswers v strip a
       worked a h e (said-yes z c) =
           CachedAnswers.yes (detach-entry v strip Verdict.Passes .0 h) (cached-yes-exactly v strip h .0 e)
@@ -40,7 +40,7 @@ module _ (v : View) (strip : List ℕ) where
       worked a h e (said-error f) =
           CachedAnswers.offset (detach-entry v strip Verdict.Passes .0 h) (cached-offset-exactly v strip h .0 e)
 
-      go : (c : Verdict) → detachChecks v strip ≡ c → CachedAnswers v strip (cachedOf v strip .answer)
+      go : (c : Verdict) → entryChecks v strip ≡ c → CachedAnswers v strip (cachedOf v strip .answer)
       go Verdict.Passes h = worked (cachedOf v strip .answer) h refl (cached-ends v strip h)
       go (Verdict.Refused a) h =
           rw (cached-refused v strip a h .same) (CachedAnswers.refused (detach-entry v strip (Verdict.Refused a) .0 h))
@@ -133,10 +133,10 @@ module _ (v : View) (strip : List ℕ) (lent : ℕ) where
 
   -- detach: its answer has its condition
   detach-found : DetachAnswers v strip lent (detachOf v strip lent .answer)
-  detach-found = go (detachChecks v strip) refl
+  detach-found = go (entryChecks v strip) refl
     where
       worked :
-          {attached read : ℕ} (a : Answer) → detachChecks v strip ≡ Verdict.Passes → detachOf v strip lent .answer ≡ a →
+          {attached read : ℕ} (a : Answer) → entryChecks v strip ≡ Verdict.Passes → detachOf v strip lent .answer ≡ a →
           Ends strip lent 0 attached read a → DetachAnswers v strip lent a
       worked a h e (yes n k z c) =
           let t = detach-accepted-exactly v strip lent .0 (rw e) in
@@ -147,7 +147,7 @@ module _ (v : View) (strip : List ℕ) (lent : ℕ) where
       worked a h e (spent c) =
           DetachAnswers.budget (detach-entry v strip Verdict.Passes .0 h) (budget-exactly v strip lent .0 (lent, e))
 
-      go : (c : Verdict) → detachChecks v strip ≡ c → DetachAnswers v strip lent (detachOf v strip lent .answer)
+      go : (c : Verdict) → entryChecks v strip ≡ c → DetachAnswers v strip lent (detachOf v strip lent .answer)
       go Verdict.Passes h = worked (detachOf v strip lent .answer) h refl (detach-ends v strip lent h)
       go (Verdict.Refused a) h =
           rw (detach-refused v strip lent a h .same)

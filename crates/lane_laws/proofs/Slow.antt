@@ -18,7 +18,7 @@ use Rattle.lane_rules.specs.Answers.{isAccepted}
 use Rattle.lane_rules.specs.Steps.{compared, refreshed}
 use Rattle.lane_rules.specs.Passes.{cachedPass, tryLane, refreshedFrom}
 use Rattle.lane_rules.specs.Rounds.{round, rounds, detaching}
-use Rattle.lane_rules.specs.Calls.{badHeight, badView, badStrip, detachChecks, ended, detachOf}
+use Rattle.lane_rules.specs.Calls.{badHeight, badView, badStrip, entryChecks, ended, detachOf}
 use Rattle.lane_laws.specs.Ends.{NoErrors}
 use Rattle.lane_laws.specs.Slow.{slowStrip, slowView, AlwaysEnough}
 use Rattle.lane_laws.proofs.Live.{accepted-had-rounds, more-rounds, no-errors-retire}
@@ -48,8 +48,8 @@ slow-no-errors (suc (suc n)) (suc zero) = omega arith
 slow-no-errors (suc (suc n)) (suc (suc i)) = slow-no-errors n i
 
 -- a detach of the slow view passes its checks
-pub slow-passes : (n : ℕ) → n ≤ mostBytes → detachChecks slowView (slowStrip n) ≡ Verdict.Passes
-unfolding detachChecks badHeight badView badStrip properStrip lanesBelow
+pub slow-passes : (n : ℕ) → n ≤ mostBytes → entryChecks slowView (slowStrip n) ≡ Verdict.Passes
+unfolding entryChecks badHeight badView badStrip properStrip lanesBelow
 slow-passes n h = rw (slow-length n, le-leb n mostBytes h, slow-proper n)
 
 -- from a place on, the strip reads as another does from its start

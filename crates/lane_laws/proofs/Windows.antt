@@ -21,7 +21,7 @@ use Rattle.lane_rules.specs.Answers.{isAccepted}
 use Rattle.lane_rules.specs.Steps.{compared, refreshed}
 use Rattle.lane_rules.specs.Passes.{cachedPass, tryLane, refreshedFrom}
 use Rattle.lane_rules.specs.Rounds.{round, rounds, detaching}
-use Rattle.lane_rules.specs.Calls.{badHeight, badView, badWindow, detachChecks, refreshedChecks, unlessRefused, passed, ended}
+use Rattle.lane_rules.specs.Calls.{badHeight, badView, badWindow, entryChecks, refreshedChecks, unlessRefused, passed, ended}
 use Rattle.lane_rules.specs.Calls.{cachedOf, refreshedOf, detachOf}
 use Rattle.lane_laws.specs.Clauses.{Valid, isRefusal}
 use Rattle.lane_laws.specs.Ends.{cachedWork, refreshedWork}
@@ -173,13 +173,13 @@ module _ (v : View) (strip : List ℕ) where
   -- a cached pass that tells 0 was not refused, and said no
   told-no :
       cachedOf v strip .answer ≡ Answer.Accepted 0 →
-      (detachChecks v strip ≡ Verdict.Passes) × (cachedWork v strip .said ≡ Said.No)
+      (entryChecks v strip ≡ Verdict.Passes) × (cachedWork v strip .said ≡ Said.No)
   unfolding cachedOf
-  told-no e = go (detachChecks v strip) refl
+  told-no e = go (entryChecks v strip) refl
     where
       go :
-          (c : Verdict) → detachChecks v strip ≡ c →
-          (detachChecks v strip ≡ Verdict.Passes) × (cachedWork v strip .said ≡ Said.No)
+          (c : Verdict) → entryChecks v strip ≡ c →
+          (entryChecks v strip ≡ Verdict.Passes) × (cachedWork v strip .said ≡ Said.No)
       go Verdict.Passes h = (h, no-told (cachedWork v strip .said) (rw h at e))
       go (Verdict.Refused a) h =
           let r = cached-refused v strip a h in absurd (clash (isRefusal a) (r .number) (ap isRefusal (rw h at e)))
@@ -187,9 +187,9 @@ module _ (v : View) (strip : List ℕ) where
   -- where no refresh sets the window, a detach hands it back as it came; a pass always does (upstream's clause `window`)
   pub detach-window-kept : (lent : ℕ) → (SetsWindow v strip lent → ⊥) → detachOf v strip lent .view .window ≡ v .window
   unfolding detachOf cachedOf
-  detach-window-kept lent f = go (detachChecks v strip) refl
+  detach-window-kept lent f = go (entryChecks v strip) refl
     where
-      go : (c : Verdict) → detachChecks v strip ≡ c → detachOf v strip lent .view .window ≡ v .window
+      go : (c : Verdict) → entryChecks v strip ≡ c → detachOf v strip lent .view .window ≡ v .window
       go Verdict.Passes h =
           rw h
           (detaching-kept strip (v .height) lent (v .attached) (v .window)
@@ -202,8 +202,8 @@ module _ (v : View) (strip : List ℕ) where
     lanes-alike lane l = below-same (v .window) window (v .height) lane alike l
 
     -- the checks of the cached pass and of detach do not look at the window
-    detach-checks-alike : detachChecks (withWindow v window) strip ≡ detachChecks v strip
-    unfolding detachChecks badHeight badView
+    detach-checks-alike : entryChecks (withWindow v window) strip ≡ entryChecks v strip
+    unfolding entryChecks badHeight badView
     detach-checks-alike = refl
 
     -- 22 looks below the height only, as no attached lane is above it
@@ -234,7 +234,7 @@ module _ (v : View) (strip : List ℕ) where
     unfolding cachedOf
     cached-windows =
         rw (detach-checks-alike, cached-alike strip (v .window) window (v .height) (v .attached) 0 lanes-alike)
-        (unless-same v window (detachChecks v strip) (pass-same v window (cachedWork v strip)))
+        (unless-same v window (entryChecks v strip) (pass-same v window (cachedWork v strip)))
 
     -- and so does the refreshed pass
     pub refreshed-windows : SameButWindow (refreshedOf v strip) (refreshedOf (withWindow v window) strip)
@@ -249,7 +249,7 @@ module _ (v : View) (strip : List ℕ) where
     detach-windows lent =
         let same = detaching-alike strip (v .height) (v .window) window lanes-alike lent (v .attached) in
         rw detach-checks-alike
-        (unless-same v window (detachChecks v strip) record {
+        (unless-same v window (entryChecks v strip) record {
           answer = same .0;
           height = refl;
           guarded = refl;

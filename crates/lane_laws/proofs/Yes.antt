@@ -19,7 +19,7 @@ use Rattle.lane_rules.specs.declared.Answer.{Answer}
 use Rattle.lane_rules.specs.declared.Verdict.{Verdict}
 use Rattle.lane_rules.specs.Steps.{compared}
 use Rattle.lane_rules.specs.Passes.{cachedPass}
-use Rattle.lane_rules.specs.Calls.{detachChecks, refreshedChecks, cachedOf, refreshedOf}
+use Rattle.lane_rules.specs.Calls.{entryChecks, refreshedChecks, cachedOf, refreshedOf}
 use Rattle.lane_laws.specs.Clauses.{NoneBelow, Says}
 use Rattle.lane_laws.specs.Ends.{cachedWork, refreshedWork, AllCleared}
 use Rattle.lane_laws.proofs.Cases.{by-said, no-not-yes, error-not-yes, yes-told}
@@ -92,7 +92,7 @@ module _ (strip : List ℕ) (window : ℕ) where
 module _ (v : View) (strip : List ℕ) where
   -- the cached pass tells 1 exactly where every lane is in the window and attached, and every byte that it reads is 0
   pub cached-yes-exactly :
-      detachChecks v strip ≡ Verdict.Passes →
+      entryChecks v strip ≡ Verdict.Passes →
       (cachedOf v strip .answer ≡ Answer.Accepted 1) ↔ AllCleared strip (v .window) (v .attached) 0 (v .height)
   unfolding cachedOf
   cached-yes-exactly h = (

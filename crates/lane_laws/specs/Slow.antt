@@ -5,13 +5,13 @@ use mathlib.Core.List.{List, [], _∷_}
 use lib.ListN.{length}
 use Rattle.lane_rules.specs.declared.View.{View}
 use Rattle.lane_rules.specs.declared.Verdict.{Verdict}
-use Rattle.lane_rules.specs.Calls.{detachChecks, detachOf}
+use Rattle.lane_rules.specs.Calls.{entryChecks, detachOf}
 use Rattle.lane_laws.specs.Ends.{NoErrors, Retired}
 
 -- so many rounds, by the length of the strip, let every detach end retired that passes its checks, if no byte is an error
 abbrev pub AlwaysEnough : (ℕ → ℕ) → Type 0
 AlwaysEnough few =
-    (v : View) (strip : List ℕ) → detachChecks v strip ≡ Verdict.Passes → NoErrors strip →
+    (v : View) (strip : List ℕ) → entryChecks v strip ≡ Verdict.Passes → NoErrors strip →
     Retired (detachOf v strip (few (length strip)))
 
 -- each refresh succeeds, and each compare behind it says no, up to the strip's end

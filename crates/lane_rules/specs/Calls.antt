@@ -37,8 +37,8 @@ abbrev pub refuse : Bool → Answer → Verdict → Verdict
 refuse applies a next = cond applies (Verdict.Refused a) next
 
 -- the checks of the cached pass and of detach: the first that applies is given
-unfoldable pub detachChecks : View → List ℕ → Verdict
-detachChecks v strip =
+unfoldable pub entryChecks : View → List ℕ → Verdict
+entryChecks v strip =
     refuse (badHeight v) Answer.Height
     (refuse (badView v) Answer.View
     (refuse (badStrip strip) Answer.Strip Verdict.Passes))
@@ -77,7 +77,7 @@ ended v e =
 -- the cached pass as a call
 unfoldable pub cachedOf : View → List ℕ → Done
 cachedOf v strip =
-    unlessRefused (detachChecks v strip) v (passed v (cachedPass strip (v .height) (v .window) (v .attached) 0))
+    unlessRefused (entryChecks v strip) v (passed v (cachedPass strip (v .height) (v .window) (v .attached) 0))
 
 -- the refreshed pass as a call
 unfoldable pub refreshedOf : View → List ℕ → Done
@@ -87,4 +87,4 @@ refreshedOf v strip =
 -- detach, with so many rounds lent
 unfoldable pub detachOf : View → List ℕ → ℕ → Done
 detachOf v strip lent =
-    unlessRefused (detachChecks v strip) v (ended v (detaching strip (v .height) lent (v .attached) (v .window)))
+    unlessRefused (entryChecks v strip) v (ended v (detaching strip (v .height) lent (v .attached) (v .window)))

@@ -4,9 +4,9 @@ use Rattle.masks.specs.Masks.{digit, laneIn, cleared, entered, lanesBelow, with
 use Rattle.lane_rules.specs.Steps.{compared, refreshed}
 use Rattle.lane_rules.specs.Passes.{cachedPass, tryLane, refreshedFrom}
 use Rattle.lane_rules.specs.Rounds.{round, rounds, detaching}
-use Rattle.lane_rules.specs.Calls.{badHeight, badView, badWindow, badStrip, detachChecks, refreshedChecks, cachedOf, refreshedOf, detachOf}
+use Rattle.lane_rules.specs.Calls.{badHeight, badView, badWindow, badStrip, entryChecks, refreshedChecks, cachedOf, refreshedOf, detachOf}
 
 -- any value, as it is
 unfoldable pub computing : {A : Type 0} → A → A
-unfolding properBytes properStrip digit laneIn cleared entered lanesBelow withinBelow within lowestFrom lowest lowestCleared compared refreshed cachedPass tryLane refreshedFrom round rounds detaching badHeight badView badWindow badStrip detachChecks refreshedChecks cachedOf refreshedOf detachOf
+unfolding properBytes properStrip digit laneIn cleared entered lanesBelow withinBelow within lowestFrom lowest lowestCleared compared refreshed cachedPass tryLane refreshedFrom round rounds detaching badHeight badView badWindow badStrip entryChecks refreshedChecks cachedOf refreshedOf detachOf
 computing x = x

@@ -10,7 +10,7 @@ use Rattle.masks.specs.Masks.{mostLanes, lanesBelow, within}
 use Rattle.lane_rules.specs.declared.View.{View}
 use Rattle.lane_rules.specs.declared.Answer.{Answer}
 use Rattle.lane_rules.specs.declared.Verdict.{Verdict}
-use Rattle.lane_rules.specs.Calls.{badHeight, badView, badWindow, badStrip, detachChecks, refreshedChecks}
+use Rattle.lane_rules.specs.Calls.{badHeight, badView, badWindow, badStrip, entryChecks, refreshedChecks}
 use Rattle.lane_laws.proofs.Entry.{detach-passes}
 
 module _ (v : View) where
@@ -40,8 +40,8 @@ module _ (v : View) where
 
 module _ (v : View) (strip : List ℕ) (h : badHeight v ≡ true) where
   -- 20 comes before all else
-  pub detach-height : Verdict.Refused Answer.Height ≡ detachChecks v strip
-  unfolding detachChecks
+  pub detach-height : Verdict.Refused Answer.Height ≡ entryChecks v strip
+  unfolding entryChecks
   detach-height = rw h
 
   pub refreshed-height : Verdict.Refused Answer.Height ≡ refreshedChecks v strip
@@ -50,8 +50,8 @@ module _ (v : View) (strip : List ℕ) (h : badHeight v ≡ true) where
 
 module _ (v : View) (strip : List ℕ) (h : badHeight v ≡ false) (w : badView v ≡ true) where
   -- then 21
-  pub detach-view : Verdict.Refused Answer.View ≡ detachChecks v strip
-  unfolding detachChecks
+  pub detach-view : Verdict.Refused Answer.View ≡ entryChecks v strip
+  unfolding entryChecks
   detach-view = rw (h, w)
 
   pub refreshed-view : Verdict.Refused Answer.View ≡ refreshedChecks v strip
@@ -65,12 +65,12 @@ module _ (v : View) (strip : List ℕ) (h : badHeight v ≡ false) (w : badView 
   refreshed-window i = rw (h, w, i)
 
   -- then 23, or no refusal
-  pub detach-strip : properStrip strip ≡ false → Verdict.Refused Answer.Strip ≡ detachChecks v strip
-  unfolding detachChecks badStrip
+  pub detach-strip : properStrip strip ≡ false → Verdict.Refused Answer.Strip ≡ entryChecks v strip
+  unfolding entryChecks badStrip
   detach-strip p = rw (h, w, p)
 
-  pub detach-none : properStrip strip ≡ true → Verdict.Passes ≡ detachChecks v strip
-  unfolding detachChecks badStrip
+  pub detach-none : properStrip strip ≡ true → Verdict.Passes ≡ entryChecks v strip
+  unfolding entryChecks badStrip
   detach-none p = rw (h, w, p)
 
   module _ (i : within (v .attached) (v .window) ≡ true) where
@@ -83,5 +83,5 @@ module _ (v : View) (strip : List ℕ) (h : badHeight v ≡ false) (w : badView 
     refreshed-none p = rw (h, w, i, p)
 
 -- a height that passed its check is at most 32
-pub height-most : (v : View) (strip : List ℕ) → detachChecks v strip ≡ Verdict.Passes → v .height ≤ mostLanes
+pub height-most : (v : View) (strip : List ℕ) → entryChecks v strip ≡ Verdict.Passes → v .height ≤ mostLanes
 height-most v strip p = detach-passes v strip .0 p .0 .most

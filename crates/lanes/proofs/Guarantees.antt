@@ -12,7 +12,7 @@ use Rattle.lane_rules.specs.declared.Answer.{Answer}
 use Rattle.lane_rules.specs.declared.Verdict.{Verdict}
 use Rattle.lane_rules.specs.declared.Done.{Done}
 use Rattle.lane_rules.specs.Answers.{toldOf, isAccepted}
-use Rattle.lane_rules.specs.Calls.{detachChecks, refreshedChecks, cachedOf, refreshedOf, detachOf}
+use Rattle.lane_rules.specs.Calls.{entryChecks, refreshedChecks, cachedOf, refreshedOf, detachOf}
 use Rattle.lane_laws.specs.Clauses.{NoneBelow, PassClauses, RefreshedClauses, DetachClauses}
 use Rattle.lane_laws.specs.Ends.{detachWork, NoErrors, Clean, AllCleared, SomeNo, SomeError, lanesTried, MetNoError, HadRounds}
 use Rattle.lane_laws.specs.Ends.{Retired, roundsNeeded, OneOf, cachedNumbers, refreshedNumbers, detachNumbers}
@@ -50,7 +50,7 @@ module _ (v : View) (strip : List ℕ) (r : Done) (p : CachedPromise v strip r) 
 
   -- it tells 1 exactly where every lane is in the window and attached, and every byte that it reads is 0
   pub cached-yes-exactly :
-      detachChecks v strip ≡ Verdict.Passes →
+      entryChecks v strip ≡ Verdict.Passes →
       (r .answer ≡ Answer.Accepted 1) ↔ AllCleared strip (v .window) (v .attached) 0 (v .height)
   cached-yes-exactly c =
       cached-so (λ (o : Done). (o .answer ≡ Answer.Accepted 1) ↔ AllCleared strip (v .window) (v .attached) 0 (v .height))
@@ -58,7 +58,7 @@ module _ (v : View) (strip : List ℕ) (r : Done) (p : CachedPromise v strip r) 
 
   -- it tells 0 exactly where it comes to a lane that is outside the window, or has byte 1, or has byte 0 and is not attached
   pub cached-no-exactly :
-      detachChecks v strip ≡ Verdict.Passes →
+      entryChecks v strip ≡ Verdict.Passes →
       (r .answer ≡ Answer.Accepted 0) ↔ SomeNo strip (v .window) (v .attached) 0 (v .height)
   cached-no-exactly c =
       cached-so (λ (o : Done). (o .answer ≡ Answer.Accepted 0) ↔ SomeNo strip (v .window) (v .attached) 0 (v .height))
@@ -66,7 +66,7 @@ module _ (v : View) (strip : List ℕ) (r : Done) (p : CachedPromise v strip r) 
 
   -- it is 24 exactly where it comes to a lane of the window whose byte is an error
   pub cached-offset-exactly :
-      detachChecks v strip ≡ Verdict.Passes →
+      entryChecks v strip ≡ Verdict.Passes →
       (r .answer ≡ Answer.Offset 0) ↔ SomeError strip (v .window) (v .attached) 0 (v .height)
   cached-offset-exactly c =
       cached-so (λ (o : Done). (o .answer ≡ Answer.Offset 0) ↔ SomeError strip (v .window) (v .attached) 0 (v .height))
@@ -135,16 +135,16 @@ module _ (v : View) (strip : List ℕ) (lent : ℕ) (r : Done) (p : DetachPromis
 
   -- a detach not refused at entry that meets no storage error, with two rounds more than half its strip's bytes, ends retired
   pub detach-live :
-      detachChecks v strip ≡ Verdict.Passes → length strip / 2 + 2 ≤ lent → MetNoError (r .answer) → Retired r
+      entryChecks v strip ≡ Verdict.Passes → length strip / 2 + 2 ≤ lent → MetNoError (r .answer) → Retired r
   detach-live c h = so (λ (o : Done). MetNoError (o .answer) → Retired o) (live.detach-live v strip lent c h)
 
   -- the customer's own: two rounds more than its strip has bytes
   pub detach-retires :
-      detachChecks v strip ≡ Verdict.Passes → length strip + 2 ≤ lent → MetNoError (r .answer) → Retired r
+      entryChecks v strip ≡ Verdict.Passes → length strip + 2 ≤ lent → MetNoError (r .answer) → Retired r
   detach-retires c h = so (λ (o : Done). MetNoError (o .answer) → Retired o) (live.detach-retires v strip lent c h)
 
   -- with a strip that has no error byte there is no word of the answer
-  pub no-errors-retire : detachChecks v strip ≡ Verdict.Passes → length strip / 2 + 2 ≤ lent → NoErrors strip → Retired r
+  pub no-errors-retire : entryChecks v strip ≡ Verdict.Passes → length strip / 2 + 2 ≤ lent → NoErrors strip → Retired r
   no-errors-retire c h n = so Retired (live.no-errors-retire v strip lent c h n)
 
   -- however many rounds are lent, few are made
@@ -173,7 +173,7 @@ module _ (v : View) (strip : List ℕ) (lent : ℕ) (r : Done) (p : DetachPromis
 
   -- 24 exactly where an error byte was read
   pub offset-exactly :
-      detachChecks v strip ≡ Verdict.Passes →
+      entryChecks v strip ≡ Verdict.Passes →
       ((n : ℕ) × (r .answer ≡ Answer.Offset n)) ↔ ((i : ℕ) × (i < detachWork v strip lent .read) × (1 < byteAt strip i))
   offset-exactly c =
       so
@@ -184,11 +184,11 @@ module _ (v : View) (strip : List ℕ) (lent : ℕ) (r : Done) (p : DetachPromis
   -- accepted exactly where no check applies, no byte that it reads is an error, and as many rounds are lent as it needs
   pub detach-accepted-exactly :
       (isAccepted (r .answer) ≡ true)
-      ↔ ((detachChecks v strip ≡ Verdict.Passes) × Clean strip 0 (detachWork v strip lent .read) × (roundsNeeded v strip ≤ lent))
+      ↔ ((entryChecks v strip ≡ Verdict.Passes) × Clean strip 0 (detachWork v strip lent .read) × (roundsNeeded v strip ≤ lent))
   detach-accepted-exactly =
       so
       (λ (o : Done). (isAccepted (o .answer) ≡ true)
-      ↔ ((detachChecks v strip ≡ Verdict.Passes) × Clean strip 0 (detachWork v strip lent .read) × (roundsNeeded v strip ≤ lent)))
+      ↔ ((entryChecks v strip ≡ Verdict.Passes) × Clean strip 0 (detachWork v strip lent .read) × (roundsNeeded v strip ≤ lent)))
       (live.detach-accepted-exactly v strip lent)
 
   -- where no refresh sets the window, it is handed back as it came
@@ -197,7 +197,7 @@ module _ (v : View) (strip : List ℕ) (lent : ℕ) (r : Done) (p : DetachPromis
 
   -- retired exactly where it was accepted
   pub retired-exactly :
-      detachChecks v strip ≡ Verdict.Passes → (r .view .retired ≡ 1) ↔ (isAccepted (r .answer) ≡ true)
+      entryChecks v strip ≡ Verdict.Passes → (r .view .retired ≡ 1) ↔ (isAccepted (r .answer) ≡ true)
   retired-exactly c =
       so (λ (o : Done). (o .view .retired ≡ 1) ↔ (isAccepted (o .answer) ≡ true)) (exactly.retired-exactly v strip lent c)
 
@@ -245,7 +245,7 @@ more-rounds v strip n m r s p q h e =
 pub no-fewer :
     (few : ℕ → ℕ) →
     ((v : View) (strip : List ℕ) (r : Done) → DetachPromise v strip (few (length strip)) r →
-    detachChecks v strip ≡ Verdict.Passes → NoErrors strip → Retired r) →
+    entryChecks v strip ≡ Verdict.Passes → NoErrors strip → Retired r) →
     (n : ℕ) → n ≤ mostBytes → n / 2 + 2 ≤ few n
 no-fewer few enough n h =
     slow.no-fewer few (λ v strip c e. enough v strip (detachOf v strip (few (length strip))) refl c e) n h

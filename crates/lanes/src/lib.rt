@@ -14,7 +14,7 @@ ghost use mathlib.Core.Bool.{cond};
 ghost use Rattle.lane_rules.specs.declared.Answer.{Answer};
 ghost use Rattle.lane_rules.specs.Answers.{toldOf, isAccepted};
 ghost use Rattle.lane_rules.specs.Passes.{bySaid};
-ghost use Rattle.lane_rules.specs.Calls.{badHeight, badView, detachChecks, refreshedChecks, viewWith, passed, ended};
+ghost use Rattle.lane_rules.specs.Calls.{badHeight, badView, entryChecks, refreshedChecks, viewWith, passed, ended};
 ghost use Rattle.lanes.specs.Promises.{CachedPromise, RefreshedPromise, DetachPromise};
 
 // The number of an answer and its value.
@@ -64,7 +64,7 @@ fn bad_view(view: View) -> bool
 
 // The checks of the cached pass and of detach, in their order.
 fn detach_checks(view: View, strip: &[u8]) -> Verdict
-    ensures { λ r. ⌜ r ≡ detachChecks view (now (strip .entry)) ⌝ }
+    ensures { λ r. ⌜ r ≡ entryChecks view (now (strip .entry)) ⌝ }
 {
     if bad_height(view) {
         return Verdict::Refused(Answer::Height);

@@ -15,7 +15,7 @@ use Rattle.rules.specs.Answers.{isAccepted, poisons, settled}
 use Rattle.rules.specs.Checks.{prepareChecks, rollbackChecks, removalChecks, publishChecks, countChecks}
 use Rattle.rules.specs.Orders.{Call}
 use Rattle.rules.specs.Publication.{Stage, rolledBack, thenSources}
-use Rattle.rules.specs.Calls.{Outcome, asBefore, decided, headAfter, shown, prepared, prepareOf, rollbackOf, removalOf, publishOf, countOf}
+use Rattle.rules.specs.Calls.{Outcome, asBefore, unlessRefused, headAfter, shown, prepared, prepareOf, rollbackOf, removalOf, publishOf, countOf}
 use Rattle.laws.specs.Words.{postingsBefore, isUnchanged, Stable, AsBefore, StaysWellFormed, RefusesPoisoned}
 use Rattle.booleans.proofs.Tests.{by-cases, clash}
 use Rattle.laws.proofs.Flat.{well-formed-parts, Sound, sound-postings, well-formed-laid-out, length-laid-out}
@@ -121,7 +121,7 @@ module _ (head : Head) (table : List ℕ) (c : Call) where
   -- so a well-formed table stays well formed
   decided-well-formed :
       (v : Verdict) (list : List ℕ) (s : Stage) → (v ≡ Verdict.Passes → Sound (head .bindings) (capacity table) (s .postings)) →
-      StaysWellFormed head table (decided v (asBefore head table (c .recordList)) (shown head table list s))
+      StaysWellFormed head table (unlessRefused v (asBefore head table (c .recordList)) (shown head table list s))
   decided-well-formed (Verdict.Refused a) list s f h = h
   decided-well-formed Verdict.Passes list s f h =
       let w = well-formed-parts head table h in
@@ -149,7 +149,7 @@ module _ (head : Head) (table : List ℕ) (c : Call) where
   decided-stable :
       (v : Verdict) (list : List ℕ) (s : Stage) → isProper v ≡ true →
       (v ≡ Verdict.Passes → Sound (head .bindings) (capacity table) (s .postings)) →
-      Stable head table (decided v (asBefore head table (c .recordList)) (shown head table list s))
+      Stable head table (unlessRefused v (asBefore head table (c .recordList)) (shown head table list s))
   decided-stable (Verdict.Refused a) list s h f =
       record { bindings = refl; flag = rw (unchanged-poisons-not a (refusal-unchanged a h)); size = refl }
   decided-stable Verdict.Passes list s h f =

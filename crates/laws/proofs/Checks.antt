@@ -16,10 +16,10 @@ use Rattle.rules.specs.declared.Guard.{Guard}
 use Rattle.rules.specs.declared.Head.{Head}
 use Rattle.rules.specs.declared.Answer.{Answer}
 use Rattle.rules.specs.declared.Verdict.{Verdict}
-use Rattle.rules.specs.Postings.{every, same, present, inserted, within}
+use Rattle.rules.specs.Postings.{every, same, present, inserted, bindingBelow}
 use Rattle.rules.specs.Table.{postings, wellFormed}
 use Rattle.rules.specs.Orders.{Numbered, named, destinationOf, destinationsFrom, destinations, sources, postingsOf, properLists, Call, changesOf}
-use Rattle.rules.specs.Checks.{must, orElse, firstRefusal, tableCheck, poisonCheck, listCheck, stripCheck, roomCheck, heldKey, guarded, firstFailing, guardCheck, recordable, among, recordFrom, recordCheck, equalTo, twiceFrom, twiceCheck, presentCheck, overlapCheck, prepareChecks, rollbackChecks, removalChecks, publishChecks}
+use Rattle.rules.specs.Checks.{must, orElse, firstRefusal, tableCheck, poisonCheck, listCheck, stripCheck, roomCheck, keyHeld, guarded, firstFailing, guardCheck, recordable, among, recordFrom, recordCheck, firstEqual, twiceFrom, twiceCheck, presentCheck, overlapCheck, prepareChecks, rollbackChecks, removalChecks, publishChecks}
 use Rattle.laws.specs.Words.{isRefusal}
 use Rattle.booleans.proofs.Tests.{impossible, neither, or-swap}
 use Rattle.laws.proofs.Ranks.{same-turned}
@@ -97,15 +97,15 @@ proper-record place cs earlier (n ∷ ns) =
     (proper-must (recordable cs n && not (among n earlier)) (Answer.Record place) refl)
     (proper-record (place + 1) cs (n ∷ earlier) ns)
 
-proper-equal : (d : Numbered) (es : List Numbered) → isProper (equalTo d es) ≡ true
-unfolding equalTo
+proper-equal : (d : Numbered) (es : List Numbered) → isProper (firstEqual d es) ≡ true
+unfolding firstEqual
 proper-equal d es = proper-failing _ _ 0 es λ k x. refl
 
 proper-twice : (earlier ds : List Numbered) → isProper (twiceFrom earlier ds) ≡ true
 unfolding twiceFrom
 proper-twice earlier [] = refl
 proper-twice earlier (d ∷ ds) =
-    proper-else (equalTo d earlier) (twiceFrom (earlier ++ d ∷ []) ds) (proper-equal d earlier) (proper-twice (earlier ++ d ∷ []) ds)
+    proper-else (firstEqual d earlier) (twiceFrom (earlier ++ d ∷ []) ds) (proper-equal d earlier) (proper-twice (earlier ++ d ∷ []) ds)
 
 -- each check of a call
 module _ (head : Head) (table : List ℕ) (c : Call) where
@@ -199,22 +199,22 @@ failing-rest test answer i x xs h = else-second (must (test x) (answer i x)) (fi
 -- a guarded change names destinations within the binding count
 guarded-within :
     (n : ℕ) (gs : List Guard) (i : ℕ) (c : Change) (ds : List Numbered) → guarded n gs c ≡ true →
-    every (within n) (postingsOf ds) ≡ true → every (within n) (postingsOf (named i c (destinationOf c) ds)) ≡ true
-unfolding guarded every within
+    every (bindingBelow n) (postingsOf ds) ≡ true → every (bindingBelow n) (postingsOf (named i c (destinationOf c) ds)) ≡ true
+unfolding guarded every bindingBelow
 guarded-within n gs i c ds h k = go (destinationOf c)
   where
     below : ltb (c .binding) n ≡ true
     below =
-        and-elim-left (ltb (c .binding) n) (heldKey (c .binding) (c .before) gs)
-        (and-elim-left (ltb (c .binding) n && heldKey (c .binding) (c .before) gs) (heldKey (c .binding) (c .after) gs) h)
+        and-elim-left (ltb (c .binding) n) (keyHeld (c .binding) (c .before) gs)
+        (and-elim-left (ltb (c .binding) n && keyHeld (c .binding) (c .before) gs) (keyHeld (c .binding) (c .after) gs) h)
 
-    go : (key : Key) → every (within n) (postingsOf (named i c key ds)) ≡ true
+    go : (key : Key) → every (bindingBelow n) (postingsOf (named i c key ds)) ≡ true
     go Key.Missing = k
     go (Key.Named key) = and-intro below k
 
 destinations-within :
     (n : ℕ) (gs : List Guard) (answer : ℕ → Change → Answer) (i j : ℕ) (cs : List Change) →
-    firstFailing (guarded n gs) answer j cs ≡ Verdict.Passes → every (within n) (postingsOf (destinationsFrom i cs)) ≡ true
+    firstFailing (guarded n gs) answer j cs ≡ Verdict.Passes → every (bindingBelow n) (postingsOf (destinationsFrom i cs)) ≡ true
 unfolding destinationsFrom every
 destinations-within n gs answer i j [] h = refl
 destinations-within n gs answer i j (c ∷ cs) h =
@@ -233,8 +233,8 @@ not-among d answer i (e ∷ es) h =
     (same-turned (d .posting) (e .posting) ∙ not-true (same (e .posting) (d .posting)) (failing-first _ answer i e es h))
     (not-among d answer (i + 1) es (failing-rest _ answer i e es h))
 
-not-earlier : (d : Numbered) (es : List Numbered) → equalTo d es ≡ Verdict.Passes → present (d .posting) (postingsOf es) ≡ false
-unfolding equalTo
+not-earlier : (d : Numbered) (es : List Numbered) → firstEqual d es ≡ Verdict.Passes → present (d .posting) (postingsOf es) ≡ false
+unfolding firstEqual
 not-earlier d es h = not-among d _ 0 es h
 
 present-last :
@@ -251,10 +251,10 @@ fresh-from :
 unfolding twiceFrom
 fresh-from ps l earlier [] answer i f h k = tt
 fresh-from ps l earlier (d ∷ ds) answer i f h k = (
-  rw (f (d .posting), not-earlier d earlier (else-first (equalTo d earlier) (twiceFrom (earlier ++ d ∷ []) ds) h))
+  rw (f (d .posting), not-earlier d earlier (else-first (firstEqual d earlier) (twiceFrom (earlier ++ d ∷ []) ds) h))
       (not-true (present (d .posting) ps) (failing-first _ answer i d ds k)),
   fresh-from ps (inserted (d .posting) l) (earlier ++ d ∷ []) ds answer (i + 1) next
-      (else-second (equalTo d earlier) (twiceFrom (earlier ++ d ∷ []) ds) h)
+      (else-second (firstEqual d earlier) (twiceFrom (earlier ++ d ∷ []) ds) h)
       (failing-rest _ answer i d ds k),
 )
   where
@@ -268,7 +268,7 @@ pub record Clear (head : Head) (table : List ℕ) (c : Call) : Type 0 where
   pub formed : wellFormed head table ≡ true
   pub healthy : head .poisoned ≡ 0
   pub places : length (changesOf c) ≤ length (c .recordList)
-  pub bound : every (within (head .bindings)) (postingsOf (destinations (changesOf c))) ≡ true
+  pub bound : every (bindingBelow (head .bindings)) (postingsOf (destinations (changesOf c))) ≡ true
   pub fresh : Fresh (destinations (changesOf c)) (postings (head .used) table)
 
 module _ (head : Head) (table : List ℕ) (c : Call) where

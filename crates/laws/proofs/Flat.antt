@@ -13,7 +13,7 @@ use borrow.Author.Tests.{eqb-true, leb-true, eq-eqb, le-leb}
 use Rattle.rules.specs.declared.Posting.{Posting}
 use Rattle.rules.specs.declared.Head.{Head}
 use Rattle.rules.specs.Limits.{mostNumbers, mostBindings}
-use Rattle.rules.specs.Postings.{every, ascending, within}
+use Rattle.rules.specs.Postings.{every, ascending, bindingBelow}
 use Rattle.rules.specs.Table.{cells, capacity, postings, numbers, laidOut, allOf, limitsHold, wellFormed}
 
 pub length-numbers : (ps : List Posting) → length (numbers ps) ≡ length ps * 3
@@ -59,7 +59,7 @@ pub record WellFormed (head : Head) (table : List ℕ) : Type 0 where
   pub flag : head .poisoned ≤ 1
   pub room : head .used ≤ capacity table
   pub sorted : ascending (postings (head .used) table) ≡ true
-  pub bound : every (within (head .bindings)) (postings (head .used) table) ≡ true
+  pub bound : every (bindingBelow (head .bindings)) (postings (head .used) table) ≡ true
   pub rest : every (eqb 0) (drop (head .used * 3) table) ≡ true
 
 all-first : (b : Bool) (bs : List Bool) → allOf (b ∷ bs) ≡ true → b ≡ true
@@ -149,7 +149,7 @@ module _ (size : ℕ) (ps : List Posting) where
 pub record Sound (bindings size : ℕ) (ps : List Posting) : Type 0 where
   pub room : length ps ≤ size
   pub sorted : ascending ps ≡ true
-  pub bound : every (within bindings) ps ≡ true
+  pub bound : every (bindingBelow bindings) ps ≡ true
 
 pub sound-postings :
     (head : Head) (table : List ℕ) → WellFormed head table →

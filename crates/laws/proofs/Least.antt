@@ -15,7 +15,7 @@ use Rattle.rules.specs.declared.Answer.{Answer}
 use Rattle.rules.specs.declared.Verdict.{Verdict}
 use Rattle.rules.specs.Postings.{present}
 use Rattle.rules.specs.Table.{postings}
-use Rattle.rules.specs.Orders.{Numbered, destinations, sources, postingsOf, numbersOf, Call, changesOf}
+use Rattle.rules.specs.Orders.{Numbered, destinations, sources, postingsOf, changeNumbers, Call, changesOf}
 use Rattle.rules.specs.Checks.{twiceCheck, presentCheck, overlapCheck}
 use Rattle.laws.specs.Words.{nowhere, numberAt, rising}
 use Rattle.laws.specs.Names.{twins, FirstAt, NamesPair}
@@ -24,30 +24,30 @@ use Rattle.laws.proofs.Records.{rising-numbers, rising-sources}
 use Rattle.laws.proofs.Names.{twice-names, present-names, overlap-names}
 
 -- no number of a rising list is below its bound
-rising-bound : (low : ℕ) (ds : List Numbered) → rising low (numbersOf ds) ≡ true → (k : ℕ) → k < length ds → low ≤ numberAt ds k
+rising-bound : (low : ℕ) (ds : List Numbered) → rising low (changeNumbers ds) ≡ true → (k : ℕ) → k < length ds → low ≤ numberAt ds k
 unfolding rising
 rising-bound low [] h k l = absurd (omega arith)
-rising-bound low (d ∷ ds) h zero l = leb-true low (d .number) (and-elim-left (leb low (d .number)) (rising (d .number + 1) (numbersOf ds)) h)
+rising-bound low (d ∷ ds) h zero l = leb-true low (d .number) (and-elim-left (leb low (d .number)) (rising (d .number + 1) (changeNumbers ds)) h)
 rising-bound low (d ∷ ds) h (suc k) l =
-    let b = leb-true low (d .number) (and-elim-left (leb low (d .number)) (rising (d .number + 1) (numbersOf ds)) h) in
-    let n = rising-bound (d .number + 1) ds (and-elim-right (leb low (d .number)) (rising (d .number + 1) (numbersOf ds)) h) k (omega arith) in
+    let b = leb-true low (d .number) (and-elim-left (leb low (d .number)) (rising (d .number + 1) (changeNumbers ds)) h) in
+    let n = rising-bound (d .number + 1) ds (and-elim-right (leb low (d .number)) (rising (d .number + 1) (changeNumbers ds)) h) k (omega arith) in
     omega arith
 
 -- a later place has a greater number
 rising-places :
-    (low : ℕ) (ds : List Numbered) → rising low (numbersOf ds) ≡ true → (i j : ℕ) → i < j → j < length ds → numberAt ds i < numberAt ds j
+    (low : ℕ) (ds : List Numbered) → rising low (changeNumbers ds) ≡ true → (i j : ℕ) → i < j → j < length ds → numberAt ds i < numberAt ds j
 unfolding rising
 rising-places low [] h i j k l = absurd (omega arith)
 rising-places low (d ∷ ds) h i zero k l = absurd (omega arith)
 rising-places low (d ∷ ds) h zero (suc j) k l =
-    let n = rising-bound (d .number + 1) ds (and-elim-right (leb low (d .number)) (rising (d .number + 1) (numbersOf ds)) h) j (omega arith) in
+    let n = rising-bound (d .number + 1) ds (and-elim-right (leb low (d .number)) (rising (d .number + 1) (changeNumbers ds)) h) j (omega arith) in
     omega arith
 rising-places low (d ∷ ds) h (suc i) (suc j) k l =
-    rising-places (d .number + 1) ds (and-elim-right (leb low (d .number)) (rising (d .number + 1) (numbersOf ds)) h) i j (omega arith) (omega arith)
+    rising-places (d .number + 1) ds (and-elim-right (leb low (d .number)) (rising (d .number + 1) (changeNumbers ds)) h) i j (omega arith) (omega arith)
 
 -- so the first place that fails has the least number of all that fail
 first-least :
-    (test : Numbered → Bool) (ds : List Numbered) (k : ℕ) → rising 0 (numbersOf ds) ≡ true → FirstAt test nowhere ds k → (j : ℕ) →
+    (test : Numbered → Bool) (ds : List Numbered) (k : ℕ) → rising 0 (changeNumbers ds) ≡ true → FirstAt test nowhere ds k → (j : ℕ) →
     j < length ds → test (getD ds j nowhere) ≡ false → numberAt ds k ≤ numberAt ds j
 first-least test ds k r f j l e = go (tri k j)
   where

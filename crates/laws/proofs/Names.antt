@@ -19,7 +19,7 @@ use Rattle.rules.specs.declared.Verdict.{Verdict}
 use Rattle.rules.specs.Postings.{present}
 use Rattle.rules.specs.Table.{postings}
 use Rattle.rules.specs.Orders.{Numbered, guards, held, destinations, sources, postingsOf, noChange, Call, changesOf}
-use Rattle.rules.specs.Checks.{must, orElse, firstRefusal, firstFailing, guarded, guardCheck, recordable, among, recordFrom, recordCheck, equalTo, twiceFrom, twiceCheck, presentCheck, overlapCheck}
+use Rattle.rules.specs.Checks.{must, orElse, firstRefusal, firstFailing, guarded, guardCheck, recordable, among, recordFrom, recordCheck, firstEqual, twiceFrom, twiceCheck, presentCheck, overlapCheck}
 use Rattle.laws.specs.Words.{nowhere, numberAt}
 use Rattle.laws.specs.Names.{noGuard, FirstAt, NamesFirst, Apart, twins, FirstPair, NamesPair, Repeated, FirstBad, NamesBad, Holder, RefusedAt}
 use Rattle.booleans.proofs.Tests.{impossible, clash, or-left, or-right, or-swap}
@@ -143,8 +143,8 @@ module _ (all earlier : List Numbered) (d : Numbered) (ds : List Numbered) (e : 
   longer = length-append earlier (d ∷ [])
 
   -- d differs from the earlier ones
-  apart-more : Apart all (length earlier) → equalTo d earlier ≡ Verdict.Passes → Apart all (length (earlier ++ d ∷ []))
-  unfolding equalTo
+  apart-more : Apart all (length earlier) → firstEqual d earlier ≡ Verdict.Passes → Apart all (length (earlier ++ d ∷ []))
+  unfolding firstEqual
   apart-more f h l m x y = go (eqb m (length earlier)) refl
     where
       go : (b : Bool) → eqb m (length earlier) ≡ b → twins all l m ≡ false
@@ -157,9 +157,9 @@ module _ (all earlier : List Numbered) (d : Numbered) (ds : List Numbered) (e : 
           f l m x (omega arith)
 
   pair-here :
-      (a : Answer) → Apart all (length earlier) → equalTo d earlier ≡ Verdict.Refused a →
+      (a : Answer) → Apart all (length earlier) → firstEqual d earlier ≡ Verdict.Refused a →
       (i : ℕ) × FirstPair all i (length earlier) × (a ≡ Answer.Twice (numberAt all i) (numberAt all (length earlier)))
-  unfolding equalTo
+  unfolding firstEqual
   pair-here a f h =
       let n = failing-names nowhere _ _ 0 earlier a h in
       let t = n .first .there in (
@@ -183,12 +183,12 @@ twice-from all earlier [] e f = (
   (λ a h. impossible (cc)),
 )
 twice-from all earlier (d ∷ ds) e f =
-    go (equalTo d earlier) refl
+    go (firstEqual d earlier) refl
     (λ h. twice-from all (earlier ++ d ∷ []) ds (further all earlier d ds e) (apart-more all earlier d ds e f h))
   where
     go :
-        (v : Verdict) → equalTo d earlier ≡ v →
-        (equalTo d earlier ≡ Verdict.Passes → (twiceFrom (earlier ++ d ∷ []) ds ≡ Verdict.Passes → Apart all (length all)) × ((a : Answer) → twiceFrom (earlier ++ d ∷ []) ds ≡ Verdict.Refused a → NamesPair all a)) →
+        (v : Verdict) → firstEqual d earlier ≡ v →
+        (firstEqual d earlier ≡ Verdict.Passes → (twiceFrom (earlier ++ d ∷ []) ds ≡ Verdict.Passes → Apart all (length all)) × ((a : Answer) → twiceFrom (earlier ++ d ∷ []) ds ≡ Verdict.Refused a → NamesPair all a)) →
         (orElse v (twiceFrom (earlier ++ d ∷ []) ds) ≡ Verdict.Passes → Apart all (length all)) × ((a : Answer) → orElse v (twiceFrom (earlier ++ d ∷ []) ds) ≡ Verdict.Refused a → NamesPair all a)
     go Verdict.Passes h ih = ih h
     go (Verdict.Refused b) h ih = (

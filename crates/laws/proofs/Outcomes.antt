@@ -11,11 +11,11 @@ use Rattle.rules.specs.declared.Head.{Head}
 use Rattle.rules.specs.declared.Answer.{Answer}
 use Rattle.rules.specs.declared.Verdict.{Verdict}
 use Rattle.rules.specs.Table.{capacity, postings, laidOut, wellFormed}
-use Rattle.rules.specs.Orders.{Numbered, destinations, sources, numbersOf, recorded, Call, changesOf}
+use Rattle.rules.specs.Orders.{Numbered, destinations, sources, changeNumbers, recorded, Call, changesOf}
 use Rattle.rules.specs.Answers.{isAccepted, poisons}
 use Rattle.rules.specs.Checks.{prepareChecks, rollbackChecks, removalChecks, publishChecks}
 use Rattle.rules.specs.Publication.{Undone, undoing, Stage, removing, rolledBack, thenSources}
-use Rattle.rules.specs.Calls.{headWith, Outcome, asBefore, decided, shown, recordAfter, prepared, prepareOf, rollbackOf, removalOf, publishOf}
+use Rattle.rules.specs.Calls.{headWith, Outcome, asBefore, unlessRefused, shown, recordAfter, prepared, prepareOf, rollbackOf, removalOf, publishOf}
 use Rattle.laws.specs.Words.{postingsBefore, added, takenAway}
 use Rattle.laws.proofs.Flat.{well-formed-parts, used-postings, laid-out-same}
 use Rattle.laws.proofs.Undo.{UndoClean, UndoFailed, undo-runs}
@@ -64,7 +64,7 @@ module _ (head : Head) (table : List ℕ) (c : Call) where
   -- what an accepted publish answers and leaves
   abbrev pub accepted : Outcome
   accepted =
-      shown head table (written (numbersOf (going c)) (c .recordList))
+      shown head table (written (changeNumbers (going c)) (c .recordList))
       (record { answer = Answer.Accepted (length (going c)); postings = takenAway (leaving c) (added (going c) (postingsBefore head table)); read = 0 })
 
   -- its source removal
@@ -80,7 +80,7 @@ module _ (head : Head) (table : List ℕ) (c : Call) where
         o ≡ accepted → Published o
     halted :
         publishChecks head table c ≡ Verdict.Passes → IsReady → Halted (c .strip) (leaving c) (length (going c)) sourcesGone →
-        o ≡ shown head table (written (numbersOf (going c)) (c .recordList)) sourcesGone → Published o
+        o ≡ shown head table (written (changeNumbers (going c)) (c .recordList)) sourcesGone → Published o
     stopped :
         publishChecks head table c ≡ Verdict.Passes → IsStopped → o ≡ shown head table (c .recordList) (prepared head table c) →
         Published o
@@ -103,7 +103,7 @@ module _ (head : Head) (table : List ℕ) (c : Call) where
       let n : prepared head table c .read ≡ length (going c) = let k = r .reads in omega arith in
       rw (a, r .leaves, n)
 
-  ready-record : IsReady → recordAfter (prepared head table c) (going c) (c .recordList) ≡ written (numbersOf (going c)) (c .recordList)
+  ready-record : IsReady → recordAfter (prepared head table c) (going c) (c .recordList) ≡ written (changeNumbers (going c)) (c .recordList)
   ready-record r = rw (r .answers)
 
   cleared-accepted :
@@ -118,7 +118,7 @@ module _ (head : Head) (table : List ℕ) (c : Call) where
     where
       go :
           (v : Verdict) → publishChecks head table c ≡ v →
-          Published (decided v (asBefore head table (c .recordList)) (shown head table (recordAfter (prepared head table c) (going c) (c .recordList)) (thenSources (c .strip) (leaving c) (prepared head table c))))
+          Published (unlessRefused v (asBefore head table (c .recordList)) (shown head table (recordAfter (prepared head table c) (going c) (c .recordList)) (thenSources (c .strip) (leaving c) (prepared head table c))))
       go (Verdict.Refused a) e = Published.refused a e refl
       go Verdict.Passes e = ⊎-elim ready stop (prepared-runs (publish-clear head table c e))
         where
@@ -127,7 +127,7 @@ module _ (head : Head) (table : List ℕ) (c : Call) where
               Published (shown head table (recordAfter (prepared head table c) (going c) (c .recordList)) (thenSources (c .strip) (leaving c) (prepared head table c)))
           ready r =
               rw (ready-sources r, ready-record r)
-              (⊎-elim (λ k. Published.taken e r k (cleared-accepted (written (numbersOf (going c)) (c .recordList)) k)) (λ k. Published.halted e r k refl)
+              (⊎-elim (λ k. Published.taken e r k (cleared-accepted (written (changeNumbers (going c)) (c .recordList)) k)) (λ k. Published.halted e r k refl)
               (remove-runs (c .strip) (Answer.Accepted (length (going c))) (leaving c) (length (going c)) (added (going c) (postingsBefore head table))))
 
           stop :
@@ -140,7 +140,7 @@ module _ (head : Head) (table : List ℕ) (c : Call) where
         (a : Answer) → prepareChecks head table c ≡ Verdict.Refused a → o ≡ asBefore head table (c .recordList) a → Prepares o
     ready :
         prepareChecks head table c ≡ Verdict.Passes → IsReady →
-        o ≡ shown head table (written (numbersOf (going c)) (c .recordList)) (prepared head table c) → Prepares o
+        o ≡ shown head table (written (changeNumbers (going c)) (c .recordList)) (prepared head table c) → Prepares o
     stopped :
         prepareChecks head table c ≡ Verdict.Passes → IsStopped → o ≡ shown head table (c .recordList) (prepared head table c) →
         Prepares o
@@ -151,7 +151,7 @@ module _ (head : Head) (table : List ℕ) (c : Call) where
     where
       go :
           (v : Verdict) → prepareChecks head table c ≡ v →
-          Prepares (decided v (asBefore head table (c .recordList)) (shown head table (recordAfter (prepared head table c) (going c) (c .recordList)) (prepared head table c)))
+          Prepares (unlessRefused v (asBefore head table (c .recordList)) (shown head table (recordAfter (prepared head table c) (going c) (c .recordList)) (prepared head table c)))
       go (Verdict.Refused a) e = Prepares.refused a e refl
       go Verdict.Passes e =
           ⊎-elim (λ r. Prepares.ready e r (rw (r .answers))) (λ s. Prepares.stopped e s (rw (stop-not-accepted s))) (prepared-runs (prepare-clear head table c e))
@@ -176,7 +176,7 @@ module _ (head : Head) (table : List ℕ) (c : Call) where
     where
       go :
           (v : Verdict) → rollbackChecks head table c ≡ v →
-          RollsBack (decided v (asBefore head table (c .recordList)) (shown head table (c .recordList) (rolledBack undid)))
+          RollsBack (unlessRefused v (asBefore head table (c .recordList)) (shown head table (c .recordList) (rolledBack undid)))
       go (Verdict.Refused a) e = RollsBack.refused a e refl
       go Verdict.Passes e =
           ⊎-elim (λ k. RollsBack.clean e k refl) (λ k. RollsBack.failed e k refl) (undo-runs (c .strip) (recordedBack c) Verdict.Passes 0 (postingsBefore head table))
@@ -201,7 +201,7 @@ module _ (head : Head) (table : List ℕ) (c : Call) where
     where
       go :
           (v : Verdict) → removalChecks head table c ≡ v →
-          Removes (decided v (asBefore head table (c .recordList)) (shown head table (c .recordList) removedAlone))
+          Removes (unlessRefused v (asBefore head table (c .recordList)) (shown head table (c .recordList) removedAlone))
       go (Verdict.Refused a) e = Removes.refused a e refl
       go Verdict.Passes e =
           ⊎-elim (λ k. Removes.cleared e k refl) (λ k. Removes.halted e k refl) (remove-runs (c .strip) (Answer.Accepted 0) (leaving c) 0 (postingsBefore head table))

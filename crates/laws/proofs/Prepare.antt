@@ -14,7 +14,7 @@ use Rattle.strips.specs.Strips.{byteAt}
 use Rattle.rules.specs.declared.Posting.{Posting}
 use Rattle.rules.specs.declared.Answer.{Answer}
 use Rattle.rules.specs.declared.Verdict.{Verdict}
-use Rattle.rules.specs.Postings.{every, within, same, present, inserted}
+use Rattle.rules.specs.Postings.{every, bindingBelow, same, present, inserted}
 use Rattle.rules.specs.Orders.{Numbered, postingsOf}
 use Rattle.rules.specs.Publication.{undoing, Stage, whyNot, notInserted, preparing}
 use Rattle.laws.specs.Words.{added, numberAt, Quiet, Noisy}
@@ -219,7 +219,7 @@ prepare-inside capacity strip (d ∷ ds) done read ps p h =
 -- and sound postings stay sound
 pub prepare-sound :
     (n capacity : ℕ) (strip : List ℕ) (ds done : List Numbered) (read : ℕ) (ps : List Posting) →
-    every (within n) (postingsOf ds) ≡ true → Sound n capacity ps →
+    every (bindingBelow n) (postingsOf ds) ≡ true → Sound n capacity ps →
     Sound n capacity (preparing capacity strip ds done read ps .postings)
 unfolding preparing every
 prepare-sound n capacity strip [] done read ps h s = s
@@ -227,6 +227,6 @@ prepare-sound n capacity strip (d ∷ ds) done read ps h s =
     prepare-step (λ (t : Stage). Sound n capacity (t .postings)) capacity strip d ds done read ps
     (λ l.
     prepare-sound n capacity strip ds (d ∷ done) (read + 1) (inserted (d .posting) ps)
-    (and-elim-right (within n (d .posting)) (every (within n) (postingsOf ds)) h)
-    (sound-inserted n capacity (d .posting) ps (and-elim-left (within n (d .posting)) (every (within n) (postingsOf ds)) h) l s))
+    (and-elim-right (bindingBelow n (d .posting)) (every (bindingBelow n) (postingsOf ds)) h)
+    (sound-inserted n capacity (d .posting) ps (and-elim-left (bindingBelow n (d .posting)) (every (bindingBelow n) (postingsOf ds)) h) l s))
     (λ why. undo-sound n capacity strip done Verdict.Passes (read + 1) ps s)

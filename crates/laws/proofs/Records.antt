@@ -14,7 +14,7 @@ use Rattle.rules.specs.declared.Key.{Key}
 use Rattle.rules.specs.declared.Change.{Change}
 use Rattle.rules.specs.declared.Verdict.{Verdict}
 use Rattle.rules.specs.Postings.{same, present, inserted}
-use Rattle.rules.specs.Orders.{Numbered, named, destinationOf, sourceOf, destinationsFrom, sourcesFrom, destinations, sources, numbersOf, postingsOf, noChange, recorded}
+use Rattle.rules.specs.Orders.{Numbered, named, destinationOf, sourceOf, destinationsFrom, sourcesFrom, destinations, sources, changeNumbers, postingsOf, noChange, recorded}
 use Rattle.rules.specs.Checks.{isNamed, recordable, among, recordFrom}
 use Rattle.laws.specs.Words.{added, takenAway, rising}
 use Rattle.booleans.proofs.Tests.{neither, or-swap}
@@ -43,20 +43,20 @@ module _ (all : List Change) (i : ℕ) (c : Change) (cs : List Change) (b : Behi
 -- what the record names are the destinations themselves, in the same order
 recorded-from :
     (all : List Change) (i : ℕ) (cs : List Change) → Behind all i cs →
-    recorded all (numbersOf (destinationsFrom i cs)) ≡ destinationsFrom i cs
+    recorded all (changeNumbers (destinationsFrom i cs)) ≡ destinationsFrom i cs
 unfolding recorded destinationsFrom
 recorded-from all i [] b = refl
 recorded-from all i (c ∷ cs) b = go (destinationOf c) refl (recorded-from all (i + 1) cs (behind-rest all i c cs b))
   where
     go :
-        (k : Key) → destinationOf c ≡ k → recorded all (numbersOf (destinationsFrom (i + 1) cs)) ≡ destinationsFrom (i + 1) cs →
-        recorded all (numbersOf (named i c k (destinationsFrom (i + 1) cs))) ≡ named i c k (destinationsFrom (i + 1) cs)
+        (k : Key) → destinationOf c ≡ k → recorded all (changeNumbers (destinationsFrom (i + 1) cs)) ≡ destinationsFrom (i + 1) cs →
+        recorded all (changeNumbers (named i c k (destinationsFrom (i + 1) cs))) ≡ named i c k (destinationsFrom (i + 1) cs)
     go Key.Missing e ih = ih
     go (Key.Named key) e ih =
-        ap (λ (x : Change). named i x (destinationOf x) (recorded all (numbersOf (destinationsFrom (i + 1) cs)))) (behind-here all i c cs b)
-        ∙ (ap (λ k. named i c k (recorded all (numbersOf (destinationsFrom (i + 1) cs)))) e ∙ ap (λ l. named i c (Key.Named key) l) ih)
+        ap (λ (x : Change). named i x (destinationOf x) (recorded all (changeNumbers (destinationsFrom (i + 1) cs)))) (behind-here all i c cs b)
+        ∙ (ap (λ k. named i c k (recorded all (changeNumbers (destinationsFrom (i + 1) cs)))) e ∙ ap (λ l. named i c (Key.Named key) l) ih)
 
-pub recorded-numbers : (cs : List Change) → recorded cs (numbersOf (destinations cs)) ≡ destinations cs
+pub recorded-numbers : (cs : List Change) → recorded cs (changeNumbers (destinations cs)) ≡ destinations cs
 recorded-numbers cs = recorded-from cs 0 cs (behind-all cs)
 
 -- its numbers ascend
@@ -68,27 +68,27 @@ rising-later low high (n ∷ ns) h r =
     and-intro (le-leb low n (omega arith)) (and-elim-right (leb high n) (rising (n + 1) ns) r)
 
 rising-named :
-    (i : ℕ) (c : Change) (k : Key) (others : List Numbered) → rising (i + 1) (numbersOf others) ≡ true →
-    rising i (numbersOf (named i c k others)) ≡ true
+    (i : ℕ) (c : Change) (k : Key) (others : List Numbered) → rising (i + 1) (changeNumbers others) ≡ true →
+    rising i (changeNumbers (named i c k others)) ≡ true
 unfolding rising
-rising-named i c Key.Missing others h = rising-later i (i + 1) (numbersOf others) (omega arith) h
+rising-named i c Key.Missing others h = rising-later i (i + 1) (changeNumbers others) (omega arith) h
 rising-named i c (Key.Named key) others h = and-intro (le-leb i i (omega arith)) h
 
-rising-from : (i : ℕ) (cs : List Change) → rising i (numbersOf (destinationsFrom i cs)) ≡ true
+rising-from : (i : ℕ) (cs : List Change) → rising i (changeNumbers (destinationsFrom i cs)) ≡ true
 unfolding destinationsFrom rising
 rising-from i [] = refl
 rising-from i (c ∷ cs) = rising-named i c (destinationOf c) (destinationsFrom (i + 1) cs) (rising-from (i + 1) cs)
 
-pub rising-numbers : (cs : List Change) → rising 0 (numbersOf (destinations cs)) ≡ true
+pub rising-numbers : (cs : List Change) → rising 0 (changeNumbers (destinations cs)) ≡ true
 rising-numbers cs = rising-from 0 cs
 
 -- so do those of the sources
-rising-sources-from : (i : ℕ) (cs : List Change) → rising i (numbersOf (sourcesFrom i cs)) ≡ true
+rising-sources-from : (i : ℕ) (cs : List Change) → rising i (changeNumbers (sourcesFrom i cs)) ≡ true
 unfolding sourcesFrom rising
 rising-sources-from i [] = refl
 rising-sources-from i (c ∷ cs) = rising-named i c (sourceOf c) (sourcesFrom (i + 1) cs) (rising-sources-from (i + 1) cs)
 
-pub rising-sources : (cs : List Change) → rising 0 (numbersOf (sources cs)) ≡ true
+pub rising-sources : (cs : List Change) → rising 0 (changeNumbers (sources cs)) ≡ true
 rising-sources cs = rising-sources-from 0 cs
 
 -- a number is in it exactly if its change has a destination
@@ -112,27 +112,27 @@ recordable-none : (j : ℕ) → recordable [] j ≡ false
 unfolding recordable
 recordable-none j = rw (le-ltb j 0 (omega arith))
 
-among-from : (i : ℕ) (cs : List Change) (j : ℕ) → among (i + j) (numbersOf (destinationsFrom i cs)) ≡ recordable cs j
+among-from : (i : ℕ) (cs : List Change) (j : ℕ) → among (i + j) (changeNumbers (destinationsFrom i cs)) ≡ recordable cs j
 unfolding destinationsFrom among
 among-from i [] j = sym (recordable-none j)
 among-from i (c ∷ cs) zero = go (destinationOf c) ∙ sym (recordable-first c cs)
   where
-    go : (k : Key) → among (i + 0) (numbersOf (named i c k (destinationsFrom (i + 1) cs))) ≡ isNamed k
-    go Key.Missing = among-below (i + 0) (i + 1) (numbersOf (destinationsFrom (i + 1) cs)) (omega arith) (rising-from (i + 1) cs)
+    go : (k : Key) → among (i + 0) (changeNumbers (named i c k (destinationsFrom (i + 1) cs))) ≡ isNamed k
+    go Key.Missing = among-below (i + 0) (i + 1) (changeNumbers (destinationsFrom (i + 1) cs)) (omega arith) (rising-from (i + 1) cs)
     go (Key.Named key) = rw (eq-eqb (i + 0) i (omega arith))
 among-from i (c ∷ cs) (suc j) = go (destinationOf c) (among-from (i + 1) cs j) ∙ sym (recordable-next c cs j)
   where
     go :
-        (k : Key) → among (i + 1 + j) (numbersOf (destinationsFrom (i + 1) cs)) ≡ recordable cs j →
-        among (i + suc j) (numbersOf (named i c k (destinationsFrom (i + 1) cs))) ≡ recordable cs j
+        (k : Key) → among (i + 1 + j) (changeNumbers (destinationsFrom (i + 1) cs)) ≡ recordable cs j →
+        among (i + suc j) (changeNumbers (named i c k (destinationsFrom (i + 1) cs))) ≡ recordable cs j
     go Key.Missing ih = let e : i + suc j ≡ i + 1 + j = omega arith in rw e ih
     go (Key.Named key) ih =
         let e : i + suc j ≡ i + 1 + j = omega arith in
         let n : eqb (i + 1 + j) i ≡ false = ne-eqb (i + 1 + j) i (λ k. omega arith) in
         rw (e, n) ih
 
-pub among-numbers : (cs : List Change) (j : ℕ) → among j (numbersOf (destinations cs)) ≡ recordable cs j
-among-numbers cs j = ap (λ n. among n (numbersOf (destinations cs))) (sym (zero-add j)) ∙ among-from 0 cs j
+pub among-numbers : (cs : List Change) (j : ℕ) → among j (changeNumbers (destinations cs)) ≡ recordable cs j
+among-numbers cs j = ap (λ n. among n (changeNumbers (destinations cs))) (sym (zero-add j)) ∙ among-from 0 cs j
 
 -- and rollback takes it as it stands
 pub recordable-numbers :
@@ -148,10 +148,10 @@ recordable-numbers cs (n ∷ ns) f place low earlier g r =
     (λ m h. neither (eqb m n) (among m earlier) (ne-eqb m n (λ e. omega arith)) (g m (omega arith)))
     (and-elim-right (leb low n) (rising (n + 1) ns) r))
 
-pub record-taken : (cs : List Change) → recordFrom 0 cs [] (numbersOf (destinations cs)) ≡ Verdict.Passes
+pub record-taken : (cs : List Change) → recordFrom 0 cs [] (changeNumbers (destinations cs)) ≡ Verdict.Passes
 unfolding among
 record-taken cs =
-    recordable-numbers cs (numbersOf (destinations cs)) (λ n h. sym (among-numbers cs n) ∙ h) 0 0 [] (λ n h. refl) (rising-numbers cs)
+    recordable-numbers cs (changeNumbers (destinations cs)) (λ n h. sym (among-numbers cs n) ∙ h) 0 0 [] (λ n h. refl) (rising-numbers cs)
 
 -- undone from its end, the record takes back all that was added
 put-added :

@@ -10,7 +10,7 @@ use lib.Dec.{eqb}
 use borrow.Author.Tests.{eqb-true, eq-eqb, le-leb}
 use Rattle.rules.specs.declared.Posting.{Posting}
 use Rattle.rules.specs.declared.Order.{Order}
-use Rattle.rules.specs.Postings.{ranked, compared, same, chain, ascending, present, bucket}
+use Rattle.rules.specs.Postings.{ranked, compared, same, chain, ascending, present, rowsUnder}
 use Rattle.rules.specs.Checks.{among}
 use Rattle.laws.specs.Words.{rising}
 use Rattle.booleans.proofs.Tests.{impossible, Tri, less, equal, more, tri, equal-tests}
@@ -43,17 +43,17 @@ same-numbers binding key row q =
         let r = eqb-true row (q .row) (and-elim-right (eqb binding (q .binding) && eqb key (q .key)) (eqb row (q .row)) h) in
         rw (b, k, r) (same-self q)
 
-pub bucket-among :
-    (binding key row : ℕ) (ps : List Posting) → among row (bucket binding key ps) ≡ present (at binding key row) ps
-unfolding among bucket present
-bucket-among binding key row [] = refl
-bucket-among binding key row (q ∷ qs) =
-    go (eqb binding (q .binding) && eqb key (q .key)) refl (bucket-among binding key row qs)
+pub rows-among :
+    (binding key row : ℕ) (ps : List Posting) → among row (rowsUnder binding key ps) ≡ present (at binding key row) ps
+unfolding among rowsUnder present
+rows-among binding key row [] = refl
+rows-among binding key row (q ∷ qs) =
+    go (eqb binding (q .binding) && eqb key (q .key)) refl (rows-among binding key row qs)
   where
     go :
         (b : Bool) → (eqb binding (q .binding) && eqb key (q .key)) ≡ b →
-        among row (bucket binding key qs) ≡ present (at binding key row) qs →
-        among row (cond b (q .row ∷ bucket binding key qs) (bucket binding key qs)) ≡
+        among row (rowsUnder binding key qs) ≡ present (at binding key row) qs →
+        among row (cond b (q .row ∷ rowsUnder binding key qs) (rowsUnder binding key qs)) ≡
         (same (at binding key row) q || present (at binding key row) qs)
     go true e ih = rw (same-numbers binding key row q, e, ih)
     go false e ih = rw (same-numbers binding key row q, e) ih
@@ -77,8 +77,8 @@ before-row p q h b k = go (tri (p .row) (q .row))
 
 rising-after :
     (binding key : ℕ) (p : Posting) (ps : List Posting) → binding ≡ p .binding → key ≡ p .key → chain p ps ≡ true →
-    rising (p .row + 1) (bucket binding key ps) ≡ true
-unfolding bucket rising
+    rising (p .row + 1) (rowsUnder binding key ps) ≡ true
+unfolding rowsUnder rising
 rising-after binding key p [] b k h = refl
 rising-after binding key p (q ∷ qs) b k h =
     go (eqb binding (q .binding) && eqb key (q .key)) refl
@@ -86,9 +86,9 @@ rising-after binding key p (q ∷ qs) b k h =
     (λ x y. rising-after binding key q qs x y (chain-rest p q qs h))
   where
     go :
-        (m : Bool) → (eqb binding (q .binding) && eqb key (q .key)) ≡ m → rising (p .row + 1) (bucket binding key qs) ≡ true →
-        (binding ≡ q .binding → key ≡ q .key → rising (q .row + 1) (bucket binding key qs) ≡ true) →
-        rising (p .row + 1) (cond m (q .row ∷ bucket binding key qs) (bucket binding key qs)) ≡ true
+        (m : Bool) → (eqb binding (q .binding) && eqb key (q .key)) ≡ m → rising (p .row + 1) (rowsUnder binding key qs) ≡ true →
+        (binding ≡ q .binding → key ≡ q .key → rising (q .row + 1) (rowsUnder binding key qs) ≡ true) →
+        rising (p .row + 1) (cond m (q .row ∷ rowsUnder binding key qs) (rowsUnder binding key qs)) ≡ true
     go true e skip next =
         let x = eqb-true binding (q .binding) (and-elim-left (eqb binding (q .binding)) (eqb key (q .key)) e) in
         let y = eqb-true key (q .key) (and-elim-right (eqb binding (q .binding)) (eqb key (q .key)) e) in
@@ -97,16 +97,16 @@ rising-after binding key p (q ∷ qs) b k h =
         (next x y)
     go false e skip next = skip
 
-pub bucket-rising :
-    (binding key : ℕ) (ps : List Posting) → ascending ps ≡ true → rising 0 (bucket binding key ps) ≡ true
-unfolding ascending bucket rising
-bucket-rising binding key [] h = refl
-bucket-rising binding key (q ∷ qs) h =
-    go (eqb binding (q .binding) && eqb key (q .key)) refl (bucket-rising binding key qs (ascending-rest q qs h))
+pub rows-rising :
+    (binding key : ℕ) (ps : List Posting) → ascending ps ≡ true → rising 0 (rowsUnder binding key ps) ≡ true
+unfolding ascending rowsUnder rising
+rows-rising binding key [] h = refl
+rows-rising binding key (q ∷ qs) h =
+    go (eqb binding (q .binding) && eqb key (q .key)) refl (rows-rising binding key qs (ascending-rest q qs h))
   where
     go :
-        (m : Bool) → (eqb binding (q .binding) && eqb key (q .key)) ≡ m → rising 0 (bucket binding key qs) ≡ true →
-        rising 0 (cond m (q .row ∷ bucket binding key qs) (bucket binding key qs)) ≡ true
+        (m : Bool) → (eqb binding (q .binding) && eqb key (q .key)) ≡ m → rising 0 (rowsUnder binding key qs) ≡ true →
+        rising 0 (cond m (q .row ∷ rowsUnder binding key qs) (rowsUnder binding key qs)) ≡ true
     go true e ih =
         let x = eqb-true binding (q .binding) (and-elim-left (eqb binding (q .binding)) (eqb key (q .key)) e) in
         let y = eqb-true key (q .key) (and-elim-right (eqb binding (q .binding)) (eqb key (q .key)) e) in

@@ -14,7 +14,7 @@ use Rattle.rules.specs.declared.Posting.{Posting}
 use Rattle.rules.specs.declared.Fault.{Fault}
 use Rattle.rules.specs.declared.Answer.{Answer}
 use Rattle.rules.specs.declared.Verdict.{Verdict}
-use Rattle.rules.specs.Postings.{within, same, present, inserted, removed}
+use Rattle.rules.specs.Postings.{bindingBelow, same, present, inserted, removed}
 use Rattle.rules.specs.Orders.{Numbered}
 use Rattle.rules.specs.Storage.{insertion, Removal, removal}
 use Rattle.rules.specs.Publication.{undoing, notInserted, preparing, removing}
@@ -155,15 +155,15 @@ sound-removal n size byte p ps s = go (removal-leaves byte p ps)
         (record {
           room = let h = length-removed p ps in let k = s .room in omega arith;
           sorted = ascending-removed p ps (s .sorted);
-          bound = every-removed (within n) p ps (s .bound);
+          bound = every-removed (bindingBelow n) p ps (s .bound);
         })
 
 pub sound-inserted :
-    (n size : ℕ) (p : Posting) (ps : List Posting) → within n p ≡ true → length ps < size → Sound n size ps →
+    (n size : ℕ) (p : Posting) (ps : List Posting) → bindingBelow n p ≡ true → length ps < size → Sound n size ps →
     Sound n size (inserted p ps)
 sound-inserted n size p ps b h s =
     record {
       room = let k = length-inserted-most p ps in omega arith;
       sorted = ascending-inserted p ps (s .sorted);
-      bound = every-inserted (within n) p ps b (s .bound);
+      bound = every-inserted (bindingBelow n) p ps b (s .bound);
     }

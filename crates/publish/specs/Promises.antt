@@ -10,7 +10,7 @@ use Rattle.rules.specs.Answers.{toldOf}
 use Rattle.rules.specs.declared.Done.{Done}
 use Rattle.rules.specs.Orders.{changes, destinations, sources, Call, lending}
 use Rattle.rules.specs.Publication.{thenSources}
-use Rattle.rules.specs.Calls.{Outcome, asBefore, decided, shown, recordAfter, prepared, prepareOf, rollbackOf, removalOf, publishOf, countOf}
+use Rattle.rules.specs.Calls.{Outcome, asBefore, unlessRefused, shown, recordAfter, prepared, prepareOf, rollbackOf, removalOf, publishOf, countOf}
 use Rattle.refusals.specs.Lending.{guardedChecks}
 
 -- the numbers of the answer, the head, and every number of the table and of the record list
@@ -44,7 +44,7 @@ PublishPromise head table c r tableLeft listLeft = seen r tableLeft listLeft ≡
 -- publish for a caller that has looked at the guards itself: the same work, after the checks beside what it says of them
 unfoldable pub guardedOf : Head → List ℕ → List ℕ → Bool → ℕ → List ℕ → List ℕ → Outcome
 guardedOf head table cs paired unheld strip list =
-    decided (guardedChecks head table cs paired unheld strip list) (asBefore head table list)
+    unlessRefused (guardedChecks head table cs paired unheld strip list) (asBefore head table list)
     (shown head table (recordAfter (prepared head table (lending cs [] strip list)) (destinations (changes cs)) list)
     (thenSources strip (sources (changes cs)) (prepared head table (lending cs [] strip list))))
 

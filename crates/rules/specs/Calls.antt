@@ -11,7 +11,7 @@ use Rattle.rules.specs.declared.Answer.{Answer}
 use Rattle.rules.specs.declared.Verdict.{Verdict}
 use Rattle.rules.specs.Postings.{counted}
 use Rattle.rules.specs.Table.{capacity, postings, laidOut}
-use Rattle.rules.specs.Orders.{Numbered, destinations, sources, numbersOf, recorded, Call, changesOf}
+use Rattle.rules.specs.Orders.{Numbered, destinations, sources, changeNumbers, recorded, Call, changesOf}
 use Rattle.rules.specs.Answers.{isAccepted, poisons, settled}
 use Rattle.rules.specs.Checks.{prepareChecks, rollbackChecks, removalChecks, publishChecks, countChecks}
 use Rattle.rules.specs.Publication.{undoing, Stage, preparing, removing, rolledBack, thenSources}
@@ -32,9 +32,9 @@ abbrev pub asBefore : Head → List ℕ → List ℕ → Answer → Outcome
 asBefore head table list a = record { answer = a; head = head; table = table; recordList = list }
 
 -- the refusal, or else the work
-abbrev pub decided : Verdict → (Answer → Outcome) → Outcome → Outcome
-decided Verdict.Passes refusal work = work
-decided (Verdict.Refused a) refusal work = refusal a
+abbrev pub unlessRefused : Verdict → (Answer → Outcome) → Outcome → Outcome
+unlessRefused Verdict.Passes refusal work = work
+unlessRefused (Verdict.Refused a) refusal work = refusal a
 
 -- a head with another used and flag
 abbrev pub headWith : Head → ℕ → ℕ → Head
@@ -56,7 +56,7 @@ shown head table list s =
 
 -- the record is written only after the last insertion, in the first places of its list; places past it stay
 abbrev pub recordAfter : Stage → List Numbered → List ℕ → List ℕ
-recordAfter stage ds list = cond (isAccepted (stage .answer)) (written (numbersOf ds) list) list
+recordAfter stage ds list = cond (isAccepted (stage .answer)) (written (changeNumbers ds) list) list
 
 module _ (head : Head) (table : List ℕ) (c : Call) where
   -- the prepare part of prepare and publish
@@ -67,13 +67,13 @@ module _ (head : Head) (table : List ℕ) (c : Call) where
   -- prepare_index_destinations
   unfoldable pub prepareOf : Outcome
   prepareOf =
-      decided (prepareChecks head table c) (asBefore head table (c .recordList))
+      unlessRefused (prepareChecks head table c) (asBefore head table (c .recordList))
       (shown head table (recordAfter prepared (destinations (changesOf c)) (c .recordList)) prepared)
 
   -- rollback_index_destinations: over its record from the end to the start
   unfoldable pub rollbackOf : Outcome
   rollbackOf =
-      decided (rollbackChecks head table c) (asBefore head table (c .recordList))
+      unlessRefused (rollbackChecks head table c) (asBefore head table (c .recordList))
       (shown head table (c .recordList)
       (rolledBack
       (undoing (c .strip) (reverse (recorded (changesOf c) (c .recordList))) Verdict.Passes 0
@@ -82,14 +82,14 @@ module _ (head : Head) (table : List ℕ) (c : Call) where
   -- remove_index_sources
   unfoldable pub removalOf : Outcome
   removalOf =
-      decided (removalChecks head table c) (asBefore head table (c .recordList))
+      unlessRefused (removalChecks head table c) (asBefore head table (c .recordList))
       (shown head table (c .recordList)
       (removing (c .strip) (Answer.Accepted 0) (sources (changesOf c)) 0 (postings (head .used) table)))
 
   -- publish: prepare, then source removal
   unfoldable pub publishOf : Outcome
   publishOf =
-      decided (publishChecks head table c) (asBefore head table (c .recordList))
+      unlessRefused (publishChecks head table c) (asBefore head table (c .recordList))
       (shown head table (recordAfter prepared (destinations (changesOf c)) (c .recordList))
       (thenSources (c .strip) (sources (changesOf c)) prepared))
 

@@ -56,14 +56,14 @@ unfoldable pub roomCheck : Call → Verdict
 roomCheck c = must (leb (length (changesOf c)) (length (c .recordList))) Answer.Room
 
 -- a named key is held; none need not be
-abbrev pub heldKey : ℕ → Key → List Guard → Bool
-heldKey binding Key.Missing gs = true
-heldKey binding (Key.Named key) gs = held binding key gs
+abbrev pub keyHeld : ℕ → Key → List Guard → Bool
+keyHeld binding Key.Missing gs = true
+keyHeld binding (Key.Named key) gs = held binding key gs
 
 -- its binding is below the count, and a named before and after are held
 unfoldable pub guarded : ℕ → List Guard → Change → Bool
 guarded bindings gs c =
-    ltb (c .binding) bindings && heldKey (c .binding) (c .before) gs && heldKey (c .binding) (c .after) gs
+    ltb (c .binding) bindings && keyHeld (c .binding) (c .before) gs && keyHeld (c .binding) (c .after) gs
 
 -- 6 GUARD: the first change that is not guarded
 unfoldable pub guardCheck : Head → Call → Verdict
@@ -95,14 +95,14 @@ unfoldable pub recordCheck : Call → Verdict
 recordCheck c = recordFrom 0 (changesOf c) [] (c .recordList)
 
 -- the first of the earlier destinations that equals d
-unfoldable pub equalTo : Numbered → List Numbered → Verdict
-equalTo d earlier =
+unfoldable pub firstEqual : Numbered → List Numbered → Verdict
+firstEqual d earlier =
     firstFailing (λ (e : Numbered). not (same (e .posting) (d .posting))) (λ i e. Answer.Twice (e .number) (d .number)) 0 earlier
 
 -- each destination in turn (j) beside those before it, from the first on (i)
 unfoldable pub twiceFrom : List Numbered → List Numbered → Verdict
 twiceFrom earlier [] = Verdict.Passes
-twiceFrom earlier (d ∷ ds) = orElse (equalTo d earlier) (twiceFrom (earlier ++ d ∷ []) ds)
+twiceFrom earlier (d ∷ ds) = orElse (firstEqual d earlier) (twiceFrom (earlier ++ d ∷ []) ds)
 
 -- 7 TWICE: the first equal pair in order of j, then i
 unfoldable pub twiceCheck : Call → Verdict

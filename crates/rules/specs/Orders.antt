@@ -102,8 +102,8 @@ abbrev pub postingsOf : List Numbered → List Posting
 postingsOf ds = map (λ (d : Numbered). d .posting) ds
 
 -- a record of destinations: their change numbers
-abbrev pub numbersOf : List Numbered → List ℕ
-numbersOf ds = map (λ (d : Numbered). d .number) ds
+abbrev pub changeNumbers : List Numbered → List ℕ
+changeNumbers ds = map (λ (d : Numbered). d .number) ds
 
 -- a change that is not there: it names nothing
 abbrev pub noChange : Change

@@ -69,15 +69,15 @@ removed p [] = []
 removed p (q ∷ qs) = cond (same p q) (removed p qs) (q ∷ removed p qs)
 
 -- the rows of the postings with a binding and key, in their order
-unfoldable pub bucket : ℕ → ℕ → List Posting → List ℕ
-bucket binding key [] = []
-bucket binding key (q ∷ qs) =
-    cond (eqb binding (q .binding) && eqb key (q .key)) (q .row ∷ bucket binding key qs) (bucket binding key qs)
+unfoldable pub rowsUnder : ℕ → ℕ → List Posting → List ℕ
+rowsUnder binding key [] = []
+rowsUnder binding key (q ∷ qs) =
+    cond (eqb binding (q .binding) && eqb key (q .key)) (q .row ∷ rowsUnder binding key qs) (rowsUnder binding key qs)
 
 -- how many there are
 abbrev pub counted : ℕ → ℕ → List Posting → ℕ
-counted binding key ps = length (bucket binding key ps)
+counted binding key ps = length (rowsUnder binding key ps)
 
 -- its binding is below the count
-unfoldable pub within : ℕ → Posting → Bool
-within bindings p = ltb (p .binding) bindings
+unfoldable pub bindingBelow : ℕ → Posting → Bool
+bindingBelow bindings p = ltb (p .binding) bindings

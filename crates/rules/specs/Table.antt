@@ -7,7 +7,7 @@ use lib.Dec.{eqb, leb}
 use Rattle.rules.specs.declared.Posting.{Posting}
 use Rattle.rules.specs.declared.Head.{Head}
 use Rattle.rules.specs.Limits.{mostNumbers, mostBindings}
-use Rattle.rules.specs.Postings.{every, ascending, within}
+use Rattle.rules.specs.Postings.{every, ascending, bindingBelow}
 
 -- the numbers, three by three
 unfoldable pub cells : List ℕ → List Posting
@@ -52,6 +52,6 @@ wellFormed head table =
     ∷ leb (head .poisoned) 1
     ∷ leb (head .used) (capacity table)
     ∷ ascending (postings (head .used) table)
-    ∷ every (within (head .bindings)) (postings (head .used) table)
+    ∷ every (bindingBelow (head .bindings)) (postings (head .used) table)
     ∷ every (eqb 0) (drop (head .used * 3) table)
     ∷ [])

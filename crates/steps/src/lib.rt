@@ -23,7 +23,7 @@ ghost use Rattle.rules.specs.declared.Verdict.{Verdict};
 ghost use Rattle.rules.specs.Limits.{mostChanges};
 ghost use Rattle.rules.specs.Postings.{every};
 ghost use Rattle.rules.specs.Table.{capacity, postings};
-ghost use Rattle.rules.specs.Orders.{changes, destinations, sources, numbersOf, recorded, noChange};
+ghost use Rattle.rules.specs.Orders.{changes, destinations, sources, changeNumbers, recorded, noChange};
 ghost use Rattle.rules.specs.Publication.{undoing, notInserted, preparing, removing};
 ghost use Rattle.table.specs.Holding.{Ordered};
 ghost use Rattle.steps.specs.Leaving.{blamedOn, UndoneIn, OneUndone, StageIn, backward, inOrder};
@@ -210,7 +210,7 @@ pub fn prepare(table: &mut [u32], list: &[u32], strip: &[u8], used: usize) -> Re
 // The record of a prepare: the numbers of the changes with a destination, ascending. It is written after the last insertion.
 pub fn write_record(list: &[u32], record: &mut [u32])
     requires { ⌜ (length (changes (now list)) ≤ mostChanges) × (length (changes (now list)) ≤ length (now «record»)) ⌝ }
-    ensures { λ _. ⌜ now («record» .exit) ≡ written (numbersOf (destinations (changes (now (list .entry)))))
+    ensures { λ _. ⌜ now («record» .exit) ≡ written (changeNumbers (destinations (changes (now (list .entry)))))
         (now («record» .entry)) ⌝ }
 {
     let n = count_of(list);

@@ -12,7 +12,7 @@ use lib.Bits.{bitOr, or-add-and, and-le-l, and-le-r}
 use borrow.Author.Tests.{ltb-true, eqb-true, lt-ltb, eq-eqb}
 use Rattle.rules.specs.declared.Posting.{Posting}
 use Rattle.rules.specs.declared.Order.{Order}
-use Rattle.rules.specs.Postings.{every, ranked, compared, isBefore, chain, ascending, bucket, within}
+use Rattle.rules.specs.Postings.{every, ranked, compared, isBefore, chain, ascending, rowsUnder, bindingBelow}
 use Rattle.rules.specs.Table.{cells, postings}
 use Rattle.booleans.proofs.Tests.{impossible, Tri, less, equal, more, tri, equal-tests}
 use Rattle.laws.proofs.Left.{item-left, every-left, every-none}
@@ -48,18 +48,18 @@ module _ (t : List ℕ) (used : ℕ) (room : used * 3 ≤ length t) (i : ℕ) (h
 
   pub bucket-left :
       (binding key : ℕ) →
-      length (bucket binding key (drop i (postings used t))) ≡
-      cond (eqb binding (q .binding) && eqb key (q .key)) 1 0 + length (bucket binding key (drop (i + 1) (postings used t)))
-  unfolding bucket
+      length (rowsUnder binding key (drop i (postings used t))) ≡
+      cond (eqb binding (q .binding) && eqb key (q .key)) 1 0 + length (rowsUnder binding key (drop (i + 1) (postings used t)))
+  unfolding rowsUnder
   bucket-left binding key = rw next-left (counted-head (eqb binding (q .binding) && eqb key (q .key)))
     where
       counted-head :
           (b : Bool) →
           length
-          (cond b (q .row ∷ bucket binding key (drop (i + 1) (postings used t)))
-          (bucket binding key (drop (i + 1) (postings used t))))
+          (cond b (q .row ∷ rowsUnder binding key (drop (i + 1) (postings used t)))
+          (rowsUnder binding key (drop (i + 1) (postings used t))))
           ≡
-          cond b 1 0 + length (bucket binding key (drop (i + 1) (postings used t)))
+          cond b 1 0 + length (rowsUnder binding key (drop (i + 1) (postings used t)))
       counted-head true = omega arith
       counted-head false = omega arith
 
@@ -78,8 +78,8 @@ pub none-chained : (p : Posting) → chain p [] ≡ true
 unfolding chain
 none-chained p = refl
 
-pub none-counted : (binding key : ℕ) → length (bucket binding key []) ≡ 0
-unfolding bucket
+pub none-counted : (binding key : ℕ) → length (rowsUnder binding key []) ≡ 0
+unfolding rowsUnder
 none-counted binding key = refl
 
 binding-before : (p q : Posting) → compared p q ≡ Order.Before → p .binding ≤ q .binding
@@ -96,19 +96,19 @@ binding-before p q e = go (tri (p .binding) (q .binding))
 -- in an ascending list the last posting has the greatest binding, so it alone decides
 pub within-last :
     (bindings : ℕ) (p : Posting) (qs : List Posting) (i : ℕ) → chain p qs ≡ true → length qs ≡ i →
-    every (within bindings) (p ∷ qs) ≡ ltb (getD (p ∷ qs) i blank .binding) bindings
-unfolding every within
+    every (bindingBelow bindings) (p ∷ qs) ≡ ltb (getD (p ∷ qs) i blank .binding) bindings
+unfolding every bindingBelow
 within-last bindings p [] zero h e = and-true (ltb (p .binding) bindings)
 within-last bindings p [] (suc i) h e = absurd (omega arith)
 within-last bindings p (q ∷ qs) zero h e = absurd (omega arith)
 within-last bindings p (q ∷ qs) (suc i) h e =
-    go (every (within bindings) (q ∷ qs)) refl (within-last bindings q qs i (chain-rest p q qs h) (omega arith))
+    go (every (bindingBelow bindings) (q ∷ qs)) refl (within-last bindings q qs i (chain-rest p q qs h) (omega arith))
   where
     go :
-        (b : Bool) → every (within bindings) (q ∷ qs) ≡ b → b ≡ ltb (getD (q ∷ qs) i blank .binding) bindings →
+        (b : Bool) → every (bindingBelow bindings) (q ∷ qs) ≡ b → b ≡ ltb (getD (q ∷ qs) i blank .binding) bindings →
         (ltb (p .binding) bindings && b) ≡ ltb (getD (q ∷ qs) i blank .binding) bindings
     go true k ih =
-        let l = ltb-true (q .binding) bindings (and-elim-left (ltb (q .binding) bindings) (every (within bindings) qs) k) in
+        let l = ltb-true (q .binding) bindings (and-elim-left (ltb (q .binding) bindings) (every (bindingBelow bindings) qs) k) in
         let m = binding-before p q (chain-before p q qs h) in
         rw (lt-ltb (p .binding) bindings (omega arith)) ih
     go false k ih = and-false (ltb (p .binding) bindings) ∙ ih
@@ -116,7 +116,7 @@ within-last bindings p (q ∷ qs) (suc i) h e =
 pub bindings-within :
     (t : List ℕ) (used bindings : ℕ) → used * 3 ≤ length t → 0 < used → ascending (postings used t) ≡ true →
     (last : Posting) → last ≡ getD (cells t) (used - 1) blank →
-    ltb (last .binding) bindings ≡ every (within bindings) (postings used t)
+    ltb (last .binding) bindings ≡ every (bindingBelow bindings) (postings used t)
 unfolding ascending
 bindings-within t used bindings room h sorted last e =
     let first : Posting = getD (cells t) 0 blank in
@@ -127,11 +127,11 @@ bindings-within t used bindings room h sorted last e =
     let at : getD (postings used t) (used - 1) blank ≡ last =
     getD-take used (cells t) (used - 1) blank (omega arith) ∙ sym e in
     sym
-    (ap (every (within bindings)) here
+    (ap (every (bindingBelow bindings)) here
     ∙ (within-last bindings first (drop 1 (postings used t)) (used - 1) chained long
     ∙ ap (λ (p : Posting). ltb (p .binding) bindings) (sym (ap (λ (l : List Posting). getD l (used - 1) blank) here) ∙ at)))
 
-pub none-within : (t : List ℕ) (used bindings : ℕ) → used ≡ 0 → every (within bindings) (postings used t) ≡ true
+pub none-within : (t : List ℕ) (used bindings : ℕ) → used ≡ 0 → every (bindingBelow bindings) (postings used t) ≡ true
 unfolding every
 none-within t used bindings e = rw e
 

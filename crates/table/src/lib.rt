@@ -10,7 +10,7 @@ ghost use mathlib.Core.Bool.{true, cond, _&&_};
 ghost use lib.ListN.{length, drop, getD};
 ghost use lib.Dec.{eqb};
 ghost use Rattle.lent_lists.specs.Raised.{raised};
-ghost use Rattle.rules.specs.Postings.{every, ranked, compared, isBefore, same, ascending, present, inserted, removed, counted, within};
+ghost use Rattle.rules.specs.Postings.{every, ranked, compared, isBefore, same, ascending, present, inserted, removed, counted, bindingBelow};
 ghost use Rattle.rules.specs.Table.{cells, capacity, postings, wellFormed};
 ghost use Rattle.table.specs.Holding.{Carries, Ordered, blank, placeOf};
 ghost use Rattle.table.specs.Shifts.{lowered, stored};
@@ -99,7 +99,7 @@ fn write(table: &mut [u32], at: usize, p: Posting)
 // Each binding is below the count. In an ascending table the last has the greatest, so it alone is looked at.
 fn all_within(table: &[u32], used: usize, bindings: u32) -> bool
     requires { ⌜ (used * 3 ≤ length (now table)) × (ascending (postings used (now table)) ≡ true) ⌝ }
-    ensures { λ r. ⌜ r ≡ every (within bindings) (postings used (now (table .entry))) ⌝ }
+    ensures { λ r. ⌜ r ≡ every (bindingBelow bindings) (postings used (now (table .entry))) ⌝ }
 {
     if used == 0 {
         return true;

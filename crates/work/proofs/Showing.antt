@@ -11,9 +11,9 @@ use Rattle.rules.specs.declared.Answer.{Answer}
 use Rattle.rules.specs.declared.Head.{Head}
 use Rattle.rules.specs.declared.Posting.{Posting}
 use Rattle.rules.specs.declared.Verdict.{Verdict}
-use Rattle.rules.specs.Postings.{bucket, counted}
+use Rattle.rules.specs.Postings.{rowsUnder, counted}
 use Rattle.rules.specs.Table.{postings, laidOut, wellFormed}
-use Rattle.rules.specs.Orders.{Numbered, numbersOf}
+use Rattle.rules.specs.Orders.{Numbered, changeNumbers}
 use Rattle.rules.specs.Answers.{isAccepted, poisons, settled}
 use Rattle.rules.specs.Publication.{Undone, Stage, removing, rolledBack, thenSources}
 use Rattle.rules.specs.Calls.{headWith, shown, recordAfter, outcomeOf}
@@ -74,12 +74,12 @@ module _ (head : Head) (t₀ t list₀ : List ℕ) (ds : List Numbered) (s : Sta
   said b e = ap isAccepted (sym (h .answer)) ∙ e
 
   pub prepared-in :
-      (list : List ℕ) → length t ≡ length t₀ → isAccepted (r .answer) ≡ true → list ≡ written (numbersOf ds) list₀ →
+      (list : List ℕ) → length t ≡ length t₀ → isAccepted (r .answer) ≡ true → list ≡ written (changeNumbers ds) list₀ →
       outcomeOf (doneOf head r) t list ≡ shown head t₀ (recordAfter s ds list₀) s
   prepared-in list len e w =
       reached-shown head t₀ t list len s r most h
       ∙ ap (λ (l : List ℕ). shown head t₀ l s)
-      (w ∙ ap (λ (b : Bool). cond b (written (numbersOf ds) list₀) list₀) (sym (said true e)))
+      (w ∙ ap (λ (b : Bool). cond b (written (changeNumbers ds) list₀) list₀) (sym (said true e)))
 
   pub prepared-not :
       length t ≡ length t₀ → isAccepted (r .answer) ≡ false →
@@ -87,13 +87,13 @@ module _ (head : Head) (t₀ t list₀ : List ℕ) (ds : List Numbered) (s : Sta
   prepared-not len e =
       reached-shown head t₀ t list₀ len s r most h
       ∙ ap (λ (l : List ℕ). shown head t₀ l s)
-      (ap (λ (b : Bool). cond b (written (numbersOf ds) list₀) list₀) (sym (said false e)))
+      (ap (λ (b : Bool). cond b (written (changeNumbers ds) list₀) list₀) (sym (said false e)))
 
   -- then the sources, where all are in
   module _ (strip : List ℕ) (ss : List Numbered) where
     pub published-in :
         (list t′ : List ℕ) (r′ : Reached) (most′ : ℕ) → length t′ ≡ length t₀ → isAccepted (r .answer) ≡ true →
-        list ≡ written (numbersOf ds) list₀ →
+        list ≡ written (changeNumbers ds) list₀ →
         StageIn (removing strip (r .answer) ss (r .read) (postings (r .used) t)) r′ t′ most′ →
         outcomeOf (doneOf head r′) t′ list ≡ shown head t₀ (recordAfter s ds list₀) (thenSources strip ss s)
     published-in list t′ r′ most′ len e w o =
@@ -105,7 +105,7 @@ module _ (head : Head) (t₀ t list₀ : List ℕ) (ds : List Numbered) (s : Sta
         reached-shown head t₀ t′ list len _ r′ most′ o
         ∙ (ap (shown head t₀ list) same
         ∙ ap (λ (l : List ℕ). shown head t₀ l (thenSources strip ss s))
-        (w ∙ ap (λ (b : Bool). cond b (written (numbersOf ds) list₀) list₀) (sym (said true e))))
+        (w ∙ ap (λ (b : Bool). cond b (written (changeNumbers ds) list₀) list₀) (sym (said true e))))
 
     pub published-not :
         length t ≡ length t₀ → isAccepted (r .answer) ≡ false →
@@ -117,7 +117,7 @@ module _ (head : Head) (t₀ t list₀ : List ℕ) (ds : List Numbered) (s : Sta
 
 -- a count is no more than the postings are
 pub counted-most : (binding key : ℕ) (ps : List Posting) → counted binding key ps ≤ length ps
-unfolding bucket
+unfolding rowsUnder
 counted-most binding key [] = omega arith
 counted-most binding key (q ∷ qs) =
     let ih = counted-most binding key qs in

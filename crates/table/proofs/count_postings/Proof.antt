@@ -5,7 +5,7 @@ use mathlib.Core.List.{List}
 use mathlib.Core.Path.{_≡_, ap, _∙_}
 use lib.ListN.{length, drop}
 use borrow.Author.Needs.{needs}
-use Rattle.rules.specs.Postings.{bucket, counted}
+use Rattle.rules.specs.Postings.{rowsUnder, counted}
 use Rattle.rules.specs.Table.{postings}
 use Rattle.rules.specs.declared.Posting.{Posting}
 use Rattle.table.proofs.Reading.{none-left, bucket-left, none-counted, one-most}
@@ -51,16 +51,16 @@ loop-again c =
 returns : tie.Need-returns Inv-loop μ-loop
 returns c =
     let end : c .before .loop .i ≡ c .before .before .before .args .used = omega arith in
-    let none : length (bucket (c .before .before .before .args .binding) (c .before .before .before .args .key) (drop (c .before .loop .i) (postings (c .before .before .before .args .used) (c .before .before .before .args .table .now)))) ≡ 0 =
+    let none : length (rowsUnder (c .before .before .before .args .binding) (c .before .before .before .args .key) (drop (c .before .loop .i) (postings (c .before .before .before .args .used) (c .before .before .before .args .table .now)))) ≡ 0 =
     ap
     (λ (n : ℕ). length
-    (bucket (c .before .before .before .args .binding) (c .before .before .before .args .key)
+    (rowsUnder (c .before .before .before .args .binding) (c .before .before .before .args .key)
     (drop n (postings (c .before .before .before .args .used) (c .before .before .before .args .table .now)))))
     end
     ∙
     (ap
     (λ (l : List Posting). length
-    (bucket (c .before .before .before .args .binding) (c .before .before .before .args .key) l))
+    (rowsUnder (c .before .before .before .args .binding) (c .before .before .before .args .key) l))
     (none-left _ _ (c .before .before .before .pre)) ∙ none-counted _ _)
     in
     let l = c .before .loop .inv .1 .1 in
