@@ -11,6 +11,7 @@ use lib.ListN.{length, getD, take, length-reverse}
 use lib.Seq.{length-take-le, getD-take}
 use lib.Dec.{eqb, leb}
 use Rattle.strips.specs.Strips.{mostBytes, properBytes, properStrip, byteAt}
+use Rattle.strips.proofs.Walk.{byte-most}
 use Rattle.lent_lists.specs.Written.{written}
 use Rattle.rules.specs.declared.Posting.{Posting}
 use Rattle.rules.specs.declared.Head.{Head}
@@ -33,7 +34,7 @@ use Rattle.laws.proofs.Outcomes.{IsStopped, going, leaving, sourcesGone, undid,
 use Rattle.history.specs.Upstream.{postingsLeft}
 use Rattle.history.specs.Failures.{poisonedWith, goneAt, stuck, freed, SourceLeaves, PublishSourceLeaves, RemovalSourceLeaves, UndoLeaves, recordedIn, RollbackLeaves}
 use Rattle.history.proofs.Acceptance.{stopped-fails, ready-quiet}
-use Rattle.history.proofs.Leftovers.{byte-most, halts-leaves, undoing-leaves, prepare-stops, fresh-take, fresh-at, stuck-list, stuck-each, freed-each, freed-none}
+use Rattle.history.proofs.Leftovers.{halts-leaves, undoing-leaves, prepare-stops, fresh-take, fresh-at, stuck-list, stuck-each, freed-each, freed-none}
 
 -- no check refuses with a number that is neither 1 to 9 nor 14
 not-refused :

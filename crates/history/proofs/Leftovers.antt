@@ -6,11 +6,11 @@ use mathlib.Core.Path.{_≡_, refl, sym, ap, _∙_}
 use mathlib.Core.List.{List, [], _∷_, reverseAux, reverse}
 use mathlib.Core.Bool.{Bool, true, false, cond, not, _&&_, _||_, and-true}
 use mathlib.Core.Logic.{_⊎_, inl, inr}
-use mathlib.Mathlib.Data.Bool.Basic.{and-elim-left, and-elim-right, or-inr}
+use mathlib.Mathlib.Data.Bool.Basic.{or-inr}
 use lib.ListN.{length, getD, take}
-use lib.Dec.{eqb, leb}
-use borrow.Author.Tests.{ne-eqb, eqb-true, eqb-false, leb-true}
-use Rattle.strips.specs.Strips.{properBytes, byteAt}
+use lib.Dec.{eqb}
+use borrow.Author.Tests.{ne-eqb, eqb-true, eqb-false}
+use Rattle.strips.specs.Strips.{byteAt}
 use Rattle.rules.specs.declared.Posting.{Posting}
 use Rattle.rules.specs.declared.Answer.{Answer}
 use Rattle.rules.specs.declared.Verdict.{Verdict}
@@ -28,13 +28,6 @@ use Rattle.laws.proofs.Prepare.{Fresh}
 use Rattle.laws.proofs.Sorted.{ascending-same}
 use Rattle.laws.proofs.Sets.{present-added, ascending-added, ascending-taken-away, present-said}
 use Rattle.history.specs.Failures.{goneAt, stuck, freed}
-
--- a proper strip has no byte above 2
-pub byte-most : (strip : List ℕ) (i : ℕ) → properBytes strip ≡ true → byteAt strip i ≤ 2
-unfolding properBytes
-byte-most [] i h = omega arith
-byte-most (b ∷ bs) zero h = leb-true b 2 (and-elim-left (leb b 2) (properBytes bs) h)
-byte-most (b ∷ bs) (suc i) h = byte-most bs i (and-elim-right (leb b 2) (properBytes bs) h)
 
 -- a byte of a removal that failed is 1 or 2
 failed-byte : (byte : ℕ) → (byte ≡ 0 → ⊥) → byte ≤ 2 → (byte ≡ 1) ⊎ (byte ≡ 2)
@@ -188,6 +181,11 @@ fresh-apart (d ∷ ds) ps p f h =
     neither (same p (d .posting)) (present p (postingsOf ds)) (differs p (d .posting) ps h (f .0))
     (fresh-apart ds (inserted (d .posting) ps) p (f .1) (present-inserted p (d .posting) ps ∙ or-inr (same p (d .posting)) (present p ps) h))
 
+-- nor is one of them the next again
+fresh-self : (d : Numbered) (ds : List Numbered) (ps : List Posting) → Fresh (d ∷ ds) ps → present (d .posting) (postingsOf ds) ≡ false
+fresh-self d ds ps f =
+    fresh-apart ds (inserted (d .posting) ps) (d .posting) (f .1) (rw (present-inserted (d .posting) (d .posting) ps, same-self (d .posting)))
+
 present-at : (ds : List Numbered) (i : ℕ) → i < length ds → present (getD ds i nowhere .posting) (postingsOf ds) ≡ true
 unfolding present
 present-at [] i l = absurd (omega arith)
@@ -276,23 +274,16 @@ module _ (strip : List ℕ) (from : ℕ) where
       let e : suc (length ds) - 1 ≡ length ds = omega arith in
       rw e (go (eqb (byteAt strip (from + length ds)) 1))
     where
-      here : present (d .posting) (inserted (d .posting) ps) ≡ true
-      here = rw (present-inserted (d .posting) (d .posting) ps, same-self (d .posting))
-
       go : (b : Bool) → present (d .posting) (postingsOf (cond b (d ∷ stuck strip from ds) (stuck strip from ds))) ≡ b
       go true = rw (same-self (d .posting))
-      go false = stuck-none ds (d .posting) (fresh-apart ds (inserted (d .posting) ps) (d .posting) (f .1) here)
+      go false = stuck-none ds (d .posting) (fresh-self d ds ps f)
   stuck-each (d ∷ ds) ps f (suc i) l =
       let e : suc (length ds) - (suc i + 1) ≡ length ds - (i + 1) = omega arith in
       rw e (go (eqb (byteAt strip (from + length ds)) 1) (stuck-each ds (inserted (d .posting) ps) (f .1) i (omega arith)))
     where
-      here : present (d .posting) (inserted (d .posting) ps) ≡ true
-      here = rw (present-inserted (d .posting) (d .posting) ps, same-self (d .posting))
-
       other : same (getD ds i nowhere .posting) (d .posting) ≡ false
       other =
-          differs (getD ds i nowhere .posting) (d .posting) (postingsOf ds) (present-at ds i (omega arith))
-          (fresh-apart ds (inserted (d .posting) ps) (d .posting) (f .1) here)
+          differs (getD ds i nowhere .posting) (d .posting) (postingsOf ds) (present-at ds i (omega arith)) (fresh-self d ds ps f)
 
       go :
           (b : Bool) →
