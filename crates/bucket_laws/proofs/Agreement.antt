@@ -6,7 +6,8 @@ use mathlib.Core.List.{List}
 use Rattle.bucket_rules.specs.Calls.{sortOf, bitmapOf}
 use Rattle.bucket_laws.specs.Clauses.{FirstInvalid, Canonical, Result, BucketResult, EquivalentResults, Gives, OutputRoom}
 use Rattle.bucket_laws.specs.Clauses.{BitmapRoom, Agree}
-use Rattle.bucket_laws.proofs.Standing.{place-among, among-below}
+use Rattle.bucket_laws.proofs.Standing.{among-below}
+use Rattle.lent_lists.proofs.Among.{place-among}
 use Rattle.bucket_laws.proofs.Range.{first-unique}
 use Rattle.bucket_laws.proofs.Exactly.{room-output-exactly, room-scratch-exactly, room-bitmap-exactly}
 use Rattle.bucket_laws.proofs.Upstream.{canonical-unique, sort-clauses, bitmap-clauses}

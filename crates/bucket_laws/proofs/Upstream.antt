@@ -16,7 +16,8 @@ use Rattle.lent_lists.specs.Among.{among}
 use Rattle.bucket_rules.specs.Calls.{rangeCheck, listAfter, Outcome, sortOf, bitmapOf}
 use Rattle.bucket_laws.specs.Clauses.{InRange, Contains, Canonical, Result, BucketResult, Gives, OutputRoom, OutputShort, BitmapRoom}
 use Rattle.bucket_laws.specs.Clauses.{BitmapShort, Answers, BucketClauses}
-use Rattle.bucket_laws.proofs.Standing.{among-exactly, among-below}
+use Rattle.bucket_laws.proofs.Standing.{among-below}
+use Rattle.lent_lists.proofs.Among.{among-exactly}
 use Rattle.bucket_laws.proofs.Ascending.{sorted-unique}
 use Rattle.bucket_laws.proofs.Choosing.{choose-passes, passes-chosen, choose-sorted, choose-in-range, length-choose}
 use Rattle.bucket_laws.proofs.Choosing.{length-distinct}

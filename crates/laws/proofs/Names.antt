@@ -21,9 +21,10 @@ use Rattle.rules.specs.Table.{postings}
 use Rattle.rules.specs.Orders.{Numbered, guards, held, destinations, sources, postingsOf, noChange, Call, changesOf}
 use Rattle.rules.specs.Checks.{must, orElse, firstRefusal, firstFailing, guarded, guardCheck, recordable, recordFrom, recordCheck, firstEqual, twiceFrom, twiceCheck, presentCheck, overlapCheck}
 use Rattle.lent_lists.specs.Among.{among}
+use Rattle.lent_lists.proofs.Among.{place-among, among-place}
 use Rattle.laws.specs.Words.{nowhere, numberAt}
 use Rattle.laws.specs.Names.{noGuard, FirstAt, NamesFirst, Apart, twins, FirstPair, NamesPair, Repeated, FirstBad, NamesBad, Holder, RefusedAt}
-use Rattle.booleans.proofs.Tests.{impossible, clash, or-left, or-right, or-swap}
+use Rattle.booleans.proofs.Tests.{impossible, clash, or-swap}
 use Rattle.laws.proofs.Checks.{failing-first, failing-rest}
 
 -- where none fails
@@ -213,22 +214,8 @@ module _ (c : Call) where
   twice-names a h = both-ways .1 a h
 
 -- 14: the numbers at earlier places
-among-at : (n : ℕ) (ns : List ℕ) → among n ns ≡ true → (i : ℕ) × (i < length ns) × (getD ns i 0 ≡ n)
-unfolding among
-among-at n [] h = absurd (clash false h refl)
-among-at n (m ∷ ms) h = go (eqb n m) refl (among-at n ms) h
-  where
-    go :
-        (b : Bool) → eqb n m ≡ b → (among n ms ≡ true → (i : ℕ) × (i < length ms) × (getD ms i 0 ≡ n)) →
-        (b || among n ms) ≡ true → (i : ℕ) × (i < length (m ∷ ms)) × (getD (m ∷ ms) i 0 ≡ n)
-    go true e ih k = (0, omega arith, sym (eqb-true n m e))
-    go false e ih k = let r = ih k in let t = r .1 in (suc (r .0), omega arith, r .2)
-
 among-not : (n : ℕ) (ns : List ℕ) → among n ns ≡ false → (i : ℕ) → i < length ns → getD ns i 0 ≡ n → ⊥
-unfolding among
-among-not n [] h i l e = omega arith
-among-not n (m ∷ ms) h zero l e = eqb-false n m (or-left (eqb n m) (among n ms) h) (sym e)
-among-not n (m ∷ ms) h (suc i) l e = among-not n ms (or-right (eqb n m) (among n ms) h) i (omega arith) e
+among-not n ns h i l e = clash (among n ns) (rw (← e) (place-among ns i l)) h
 
 pub among-snoc : (n : ℕ) (ns : List ℕ) (m : ℕ) → among n (ns ++ m ∷ []) ≡ (eqb n m || among n ns)
 unfolding among
@@ -255,7 +242,7 @@ module _ (cs : List Change) (all pre : List ℕ) (n : ℕ) (ns earlier : List �
 
   repeat-here : among n earlier ≡ true → Repeated all (length pre)
   repeat-here h =
-      let r = among-at n pre (sym (f n) ∙ h) in
+      let r = among-place n pre (sym (f n) ∙ h) in
       record { at = r .0; earlier = r .1; equal = number-before (r .0) (r .1) ∙ (r .2 ∙ sym number-here) }
 
   no-repeat-here : among n earlier ≡ false → Repeated all (length pre) → ⊥

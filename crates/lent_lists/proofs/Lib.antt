@@ -1,3 +1,4 @@
--- The laws of writing, and of making room.
+-- The laws of what stands in a list, of writing, and of making room.
 pub mod Writing
 pub mod Raising
+pub mod Among
