@@ -111,8 +111,8 @@ asdrifen_told asdrifen_publish(asdrifen_head *head, uint32_t *table, size_t tabl
     const uint8_t *strip, size_t strip_len, uint32_t *record, size_t record_len);
 
 /*
- * Sets the poison flag of a head in place, and nothing else. Every later publish and count with this head is refused: with 2, or with
- * 1 where head or table is not well formed.
+ * Sets the poison flag of a head in place, and nothing else. Every later publish and count with this head is refused: with 2, or
+ * with 1 where head or table is not well formed.
  */
 void asdrifen_poison_indexes(asdrifen_head *head);
 

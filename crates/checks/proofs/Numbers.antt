@@ -44,9 +44,9 @@ module _ (number : ℕ) (l : List ℕ) (place : ℕ) (k : place ≤ length l) (i
       let n : i < length (take place l) = rw (length-take-le place l k) h in
       rw (item-left 0 (take place l) i n, getD-take place l i 0 h, e)
 
-  pub among-none : place ≤ i → among number (drop i (take place l)) ≡ false
+  pub earlier-none : place ≤ i → among number (drop i (take place l)) ≡ false
   unfolding among
-  among-none h =
+  earlier-none h =
       let n : length (take place l) ≤ i = rw (length-take-le place l k) h in
       rw (drop-of-length-le (take place l) n)
 

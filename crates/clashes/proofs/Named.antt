@@ -1,4 +1,5 @@
--- The first posting that is marked, among those that changes name (7, 8 and 9); and a posting looked for among the destinations (9).
+-- The first posting that is marked, among those that changes name (7, 8 and 9); and a posting looked for among the destinations
+-- (9).
 use Prim.Native.Nat.{ℕ, _+_, _<_, _≤_}
 use mathlib.Core.Path.{_≡_, refl, ap, _∙_}
 use mathlib.Core.List.{List, [], _∷_}
@@ -16,13 +17,13 @@ use Rattle.laws.proofs.Ranks.{same-turned}
 use Rattle.changes.proofs.Walk.{destinations-left, sources-left, destinations-none, sources-none}
 use Rattle.clashes.specs.Keys.{underKey, goesTo}
 
--- an answer that does not speak of the index is the same from any index on
-any-index :
+-- an answer that does not speak of the place is the same from any place on
+any-place :
     {A : Type 0} (test : A → Bool) (answer : A → Answer) (i j : ℕ) (xs : List A) →
     firstFailing test (λ k x. answer x) i xs ≡ firstFailing test (λ k x. answer x) j xs
 unfolding firstFailing
-any-index test answer i j [] = refl
-any-index test answer i j (x ∷ xs) = ap (orElse (must (test x) (answer x))) (any-index test answer (i + 1) (j + 1) xs)
+any-place test answer i j [] = refl
+any-place test answer i j (x ∷ xs) = ap (orElse (must (test x) (answer x))) (any-place test answer (i + 1) (j + 1) xs)
 
 -- the first posting that is marked, answered with the number of its change
 abbrev pub firstOf : (Posting → Bool) → (ℕ → Answer) → List Numbered → Verdict
@@ -38,7 +39,7 @@ module _ (marked : Posting → Bool) (answer : ℕ → Answer) where
   first-named i c Key.Missing others = refl
   first-named i c (Key.Named key) others =
       ap (orElse (must (not (marked (record { binding = c .binding; key = key; row = c .row }))) (answer i)))
-      (any-index (λ (d : Numbered). not (marked (d .posting))) (λ (d : Numbered). answer (d .number)) (0 + 1) 0 others)
+      (any-place (λ (d : Numbered). not (marked (d .posting))) (λ (d : Numbered). answer (d .number)) (0 + 1) 0 others)
 
   module _ (cs : List Change) (i : ℕ) where
     pub first-destination :

@@ -1,6 +1,6 @@
--- From what C and Rust call to the theorems: where the promise of an exported function holds of the numbers that came back, there is an
--- answer that tells these numbers, and of which the promise of the call behind holds. So what is guaranteed of results of that call is
--- guaranteed of what C and Rust get.
+-- From what C and Rust call to the theorems: where the promise of an exported function holds of the numbers that came back, there
+-- is an answer that tells these numbers, and of which the promise of the call behind holds. So what is guaranteed of results of
+-- that call is guaranteed of what C and Rust get.
 use Prim.Native.Nat.{ℕ}
 use mathlib.Core.Path.{_≡_, refl, sym, ap}
 use mathlib.Core.List.{List, [], _∷_}
@@ -28,7 +28,7 @@ use Rattle.bucket_rules.specs.Answers as bucketAnswers
 use Rattle.bucket_rules.specs.Calls as bucketCalls
 use Rattle.bucket_rules.specs.Calls.{sortOf, bitmapOf}
 use Rattle.bucket_rules.specs.Stamps.{precedes}
-use Rattle.buckets.specs.Promises as rowsUnder
+use Rattle.buckets.specs.Promises as bucket
 use Rattle.exports.specs.declared.Done.{Done}
 use Rattle.exports.specs.declared.Detached.{Detached}
 use Rattle.exports.specs.Promises.{postingSeen, PreparePromise, RollbackPromise, RemovalPromise, PublishPromise, LentPublishPromise, HeldPromise, CountPromise, laneSeen, CachedPromise, RefreshedPromise, DetachPromise, BucketSeen, bucketSeen, threeNumbers, withOther, SortPromise, BitmapPromise, PrecedesPromise}
@@ -132,8 +132,8 @@ module _ (v : View) (strip : List ℕ) (r : Detached) where
 
 -- a bucket call, whose two numbers cross as three
 bucket-behind :
-    (r : Told) (o s : List ℕ) (x : bucketCalls.Outcome) → bucketSeen r o s ≡ withOther (rowsUnder.seen x) →
-    Behind (λ (a : bucketAnswer.Answer). threeNumbers (bucketAnswers.toldOf a)) r (λ (a : bucketAnswer.Answer). rowsUnder.seen (rowsUnder.outcomeOf a o s) ≡ rowsUnder.seen x)
+    (r : Told) (o s : List ℕ) (x : bucketCalls.Outcome) → bucketSeen r o s ≡ withOther (bucket.seen x) →
+    Behind (λ (a : bucketAnswer.Answer). threeNumbers (bucketAnswers.toldOf a)) r (λ (a : bucketAnswer.Answer). bucket.seen (bucket.outcomeOf a o s) ≡ bucket.seen x)
 bucket-behind r o s x e =
     record {
       answer = x .answer;
@@ -150,19 +150,19 @@ bucket-behind r o s x e =
 -- asdrifen_canonical_buckets_sort
 pub exported-sort :
     (input : List ℕ) (count : ℕ) (output : List ℕ) (r : Told) (o : List ℕ) → SortPromise input count output r o →
-    Behind (λ (a : bucketAnswer.Answer). threeNumbers (bucketAnswers.toldOf a)) r (λ (a : bucketAnswer.Answer). rowsUnder.SortPromise input count output a o)
+    Behind (λ (a : bucketAnswer.Answer). threeNumbers (bucketAnswers.toldOf a)) r (λ (a : bucketAnswer.Answer). bucket.SortPromise input count output a o)
 exported-sort input count output r o e = bucket-behind r o [] (sortOf input count output) e
 
 -- asdrifen_canonical_buckets_bitmap
 pub exported-bitmap :
     (input : List ℕ) (count : ℕ) (output scratch : List ℕ) (r : Told) (o s : List ℕ) → BitmapPromise input count output scratch r o s →
-    Behind (λ (a : bucketAnswer.Answer). threeNumbers (bucketAnswers.toldOf a)) r (λ (a : bucketAnswer.Answer). rowsUnder.BitmapPromise input count output scratch a o s)
+    Behind (λ (a : bucketAnswer.Answer). threeNumbers (bucketAnswers.toldOf a)) r (λ (a : bucketAnswer.Answer). bucket.BitmapPromise input count output scratch a o s)
 exported-bitmap input count output scratch r o s e = bucket-behind r o s (bitmapOf input count output scratch) e
 
 -- asdrifen_stamp_precedes_snapshot: 1 for yes, 0 for no
 pub exported-precedes :
     (stamp snapshot r : ℕ) → PrecedesPromise stamp snapshot r →
-    Behind (λ (b : Bool). cond b 1 0) r (λ (b : Bool). rowsUnder.PrecedesPromise stamp snapshot b)
+    Behind (λ (b : Bool). cond b 1 0) r (λ (b : Bool). bucket.PrecedesPromise stamp snapshot b)
 exported-precedes stamp snapshot r e = record { answer = precedes stamp snapshot; numbers = sym e; promise = refl }
 
 -- what asdrifen_publish promises on return is what a run asks of each call
@@ -200,7 +200,7 @@ exported-run x (m ∷ ms) (RunAcross.next k r) =
       AllInner.next (record { call = refl; told = b .numbers; head = refl; table = refl; recordList = refl }) (e .2),
     )
 
--- and right or withheld is said of them
+-- so right or withheld holds of the calls behind them; exported-count leads there from a count
 pub exported-right-or-withheld :
     (x : Index) (start : List Posting) → Holds x start → (ms : List Crossed) → RunAcross x ms →
     (ns : List Made) × AllInner ms ns × CallsRightOrWithheld x start ns

@@ -1,5 +1,5 @@
--- What a storage failure leaves, of the calls themselves: after a 12 and after a 13 the table holds exactly the postings that the bytes
--- of the strip say.
+-- What a storage failure leaves, of the calls themselves: after a 12 and after a 13 the table holds exactly the postings that the
+-- bytes of the strip and the room in the table say.
 use Prim.Native.Nat.{ℕ}
 use mathlib.Core.Path.{_≡_}
 use mathlib.Core.List.{List}

@@ -1,5 +1,5 @@
 -- Refusals, of the calls themselves: an answer of 1 to 11 or 14 leaves everything as before, a well-formed table stays well formed,
--- no answer touches binding count or size, and a poisoned table is refused with 2.
+-- no answer touches binding count or size, and a well-formed table that is poisoned is refused with 2.
 use Prim.Native.Nat.{ℕ}
 use mathlib.Core.Path.{_≡_, _∙_}
 use mathlib.Core.List.{List}
@@ -56,7 +56,7 @@ module _ (head : Head) (table : List ℕ) (c : Call) (r : Done) (t l : List ℕ)
   pub publish-stable : PublishPromise head table c r t l → Stable head table (outcomeOf r t l)
   publish-stable k = of-result (Stable head table) r t l (publishOf head table c) k (law.publish-stable head table c)
 
-  -- a poisoned table is refused with 2, and nothing changes
+  -- a well-formed table that is poisoned is refused with 2, and nothing changes
   pub prepare-poisoned : PreparePromise head table c r t l → RefusesPoisoned head table c (outcomeOf r t l)
   prepare-poisoned k = of-result (RefusesPoisoned head table c) r t l (prepareOf head table c) k (law.prepare-poisoned head table c)
 

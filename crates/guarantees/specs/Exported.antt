@@ -1,5 +1,5 @@
--- What C and Rust get back are numbers: behind them is an answer of the inner call, of which that call's promise holds. And calls of
--- the exported publish, one after the other.
+-- What C and Rust get back are numbers: behind them is an answer of the inner call, of which that call's promise holds. And calls
+-- of the exported publish, one after the other.
 use Prim.Native.Nat.{ℕ}
 use mathlib.Core.Path.{_≡_}
 use mathlib.Core.List.{List, [], _∷_}
@@ -14,13 +14,13 @@ use Rattle.exports.specs.Promises.{LentPublishPromise}
 use Rattle.guarantees.specs.Runs.{Made}
 
 -- behind the numbers that were told is an answer that tells them, and of which a claim holds
-pub record Behind {A T : Type 0} (toldOf : A → T) (told : T) (P : A → Type 0) : Type 0 where
+pub record Behind {A T : Type 0} (tells : A → T) (told : T) (P : A → Type 0) : Type 0 where
   pub answer : A
-  pub numbers : toldOf answer ≡ told
+  pub numbers : tells answer ≡ told
   pub promise : P answer
 
--- a call of asdrifen_publish that C or Rust made: what it was lent, the numbers that it returned, and head, table and record list as it
--- left them
+-- a call of asdrifen_publish that C or Rust made: what it was lent, the numbers that it returned, and head, table and record list
+-- as it left them
 pub record Crossed : Type 0 where
   pub changes : List ℕ
   pub guards : List Guard

@@ -73,8 +73,8 @@ pub record CallsRight (x : Index) (start : List Posting) (ms : List Made) : Type
   pub rows :
       (binding key : ℕ) →
       CountSaid start (calls (taken ms)) binding key (counted binding key (said (calls (taken ms)) start))
-  -- the accepted calls made again with no storage failure, on a table of equal size and binding count that holds the same start, leave
-  -- the same table and head, and the same answers and records on the way, number for number
+  -- the accepted calls made again with no storage failure, on a table of equal size and binding count that holds the same start,
+  -- leave the same table and head, and the same answers and records on the way, number for number
   pub again :
       (y : Index) (more : List Made) → Holds y start → Alike x y → Run y more → AllAgain (calls (taken ms)) (calls more) →
       end y more ≡ end x ms

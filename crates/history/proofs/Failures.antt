@@ -1,4 +1,4 @@
--- After a 12 and after a 13 the table holds exactly the postings that the bytes of the strip say.
+-- After a 12 and after a 13 the table holds exactly the postings that the bytes of the strip and the room in the table say.
 use Prim.Native.Nat.{ℕ, _+_, _-_, _≤_, _<_}
 use native.Mathlib.Nat.{zero-add}
 use native.Mathlib.Omega.{arith}

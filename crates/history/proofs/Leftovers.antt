@@ -209,7 +209,7 @@ one-goes :
 one-goes true there put free stay f g h = rw (f refl, g refl)
 one-goes false there put free stay f g h = h
 
--- and none of them stands in the list
+-- no new destination stands in the list
 pub fresh-at :
     (ds : List Numbered) (ps : List Posting) → Fresh ds ps → (i : ℕ) → i < length ds → present (getD ds i nowhere .posting) ps ≡ false
 fresh-at [] ps f i l = absurd (omega arith)

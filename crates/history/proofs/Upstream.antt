@@ -74,11 +74,11 @@ module _ (head : Head) (table : List ℕ) (c : Call) where
       P (postings (length (s .postings)) (laidOut (length table) (s .postings)))
   shown-left P s h = rw (postings-laid-out (length table) (s .postings)) h
 
-  decided-left :
+  unless-left :
       (P : List Posting → Type 0) (v : Verdict) (list : List ℕ) (s : Stage) → P (postingsBefore head table) → P (s .postings) →
       P (postingsLeft (unlessRefused v (asBefore head table (c .recordList)) (shown head table list s)))
-  decided-left P Verdict.Passes list s h k = shown-left P s k
-  decided-left P (Verdict.Refused a) list s h k = h
+  unless-left P Verdict.Passes list s h k = shown-left P s k
+  unless-left P (Verdict.Refused a) list s h k = h
 
   refused-not :
       {A : Type 0} (v : Verdict) (o : Outcome) (a : Answer) → isProper v ≡ true → v ≡ Verdict.Refused a →
@@ -87,23 +87,23 @@ module _ (head : Head) (table : List ℕ) (c : Call) where
       absurd (clash (isAccepted a) (rw k at h) (unchanged-accepts-not a (refusal-unchanged a (refuses v a p e))))
 
   -- a call that no check refused has passed them all
-  decided-passes :
+  unless-passes :
       (v : Verdict) (o : Outcome) → isProper v ≡ true →
       isRefusal (unlessRefused v (asBefore head table (c .recordList)) o .answer) ≡ false → v ≡ Verdict.Passes
-  decided-passes Verdict.Passes o p h = refl
-  decided-passes (Verdict.Refused a) o p h = absurd (clash (isRefusal a) p h)
+  unless-passes Verdict.Passes o p h = refl
+  unless-passes (Verdict.Refused a) o p h = absurd (clash (isRefusal a) p h)
 
   rollback-passes : isRefusal (rollbackOf head table c .answer) ≡ false → rollbackChecks head table c ≡ Verdict.Passes
   unfolding rollbackOf
-  rollback-passes h = decided-passes (rollbackChecks head table c) _ (rollback-proper head table c) h
+  rollback-passes h = unless-passes (rollbackChecks head table c) _ (rollback-proper head table c) h
 
   prepare-passes : isRefusal (prepareOf head table c .answer) ≡ false → prepareChecks head table c ≡ Verdict.Passes
   unfolding prepareOf
-  prepare-passes h = decided-passes (prepareChecks head table c) _ (prepare-proper head table c) h
+  prepare-passes h = unless-passes (prepareChecks head table c) _ (prepare-proper head table c) h
 
   removal-passes : isRefusal (removalOf head table c .answer) ≡ false → removalChecks head table c ≡ Verdict.Passes
   unfolding removalOf
-  removal-passes h = decided-passes (removalChecks head table c) _ (removal-proper head table c) h
+  removal-passes h = unless-passes (removalChecks head table c) _ (removal-proper head table c) h
 
   -- what a call that was accepted leaves
   rollback-accepted :
@@ -158,7 +158,7 @@ module _ (head : Head) (table : List ℕ) (c : Call) where
   rollback-removes : RemovedOnly (postingsBefore head table) (postingsLeft (rollbackOf head table c)) (postingsOf (recorded (changesOf c) (c .recordList)))
   unfolding rollbackOf
   rollback-removes =
-      decided-left (λ l. RemovedOnly (postingsBefore head table) l (postingsOf (recorded (changesOf c) (c .recordList)))) (rollbackChecks head table c) (c .recordList)
+      unless-left (λ l. RemovedOnly (postingsBefore head table) l (postingsOf (recorded (changesOf c) (c .recordList)))) (rollbackChecks head table c) (c .recordList)
       (rolledBack (undid head table c))
       (removed-only-same (postingsBefore head table) _)
       (turned (undo-removes (c .strip) (recordedBack c) Verdict.Passes 0 (postingsBefore head table)))
@@ -226,7 +226,7 @@ module _ (head : Head) (table : List ℕ) (c : Call) where
       (present p (postingsBefore head table) || present p (postingsOf (destinations (changesOf c)))) ≡ true
   unfolding prepareOf
   prepare-within p =
-      decided-left (λ l. present p l ≡ true → (present p (postingsBefore head table) || present p (postingsOf (destinations (changesOf c)))) ≡ true) (prepareChecks head table c) _
+      unless-left (λ l. present p l ≡ true → (present p (postingsBefore head table) || present p (postingsOf (destinations (changesOf c)))) ≡ true) (prepareChecks head table c) _
       (prepared head table c)
       (λ h. rw h)
       (λ h. prepare-inside (capacity table) (c .strip) (going c) [] 0 (postingsBefore head table) p h)
@@ -257,7 +257,7 @@ module _ (head : Head) (table : List ℕ) (c : Call) where
   removal-removes : RemovedOnly (postingsBefore head table) (postingsLeft (removalOf head table c)) (postingsOf (sources (changesOf c)))
   unfolding removalOf
   removal-removes =
-      decided-left (λ l. RemovedOnly (postingsBefore head table) l (postingsOf (sources (changesOf c)))) (removalChecks head table c) (c .recordList)
+      unless-left (λ l. RemovedOnly (postingsBefore head table) l (postingsOf (sources (changesOf c)))) (removalChecks head table c) (c .recordList)
       (removedAlone head table c)
       (removed-only-same (postingsBefore head table) _)
       (remove-removes (c .strip) (Answer.Accepted 0) (leaving c) 0 (postingsBefore head table))

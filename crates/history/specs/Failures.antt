@@ -1,5 +1,5 @@
--- What a storage failure leaves: after a 12 and after a 13 exactly which postings stand in the table, told by the bytes of the strip
--- alone. No step of prepare, undo or source removal is named here.
+-- What a storage failure leaves: after a 12 and after a 13 exactly which postings stand in the table, told by the bytes of the
+-- strip and, where an insertion finds no room, by capacity and used. No step of prepare, undo or source removal is named here.
 use Prim.Native.Nat.{ℕ, _+_, _-_, _<_}
 use mathlib.Core.Path.{_≡_}
 use mathlib.Core.List.{List, [], _∷_, reverse}
@@ -19,7 +19,8 @@ use Rattle.laws.specs.Words.{postingsBefore, added, takenAway, nowhere, numberA
 use Rattle.history.specs.Acceptance.{Fails}
 use Rattle.history.specs.Upstream.{postingsLeft}
 
--- all that is seen after a 12 or 13 that left these postings: the poison flag is set, the binding count and the size are as before
+-- all that is seen after a 12 or 13 that left these postings and this record list: the poison flag is set, the binding count and
+-- the size are as before
 abbrev pub poisonedWith : Head → List ℕ → List ℕ → Answer → List Posting → Outcome
 poisonedWith head table list a ps =
     record { answer = a; head = headWith head (length ps) 1; table = laidOut (length table) ps; recordList = list }
@@ -28,8 +29,8 @@ poisonedWith head table list a ps =
 abbrev pub goneAt : ℕ → ℕ → ℕ
 goneAt byte j = cond (eqb byte 2) (j + 1) j
 
--- 13: the removal of the source at a place failed, whose byte is the first that is not 0; all destinations are in, and of the sources
--- those before it are gone, and it too where its byte is 2
+-- 13: the removal of the source at a place failed, whose byte is the first that is not 0; all destinations are in, and of the
+-- sources those before it are gone, and it too where its byte is 2
 pub record SourceLeaves (head : Head) (table list strip : List ℕ) (ds ss : List Numbered) (o : Outcome) : Type 0 where
   pub at : ℕ
   pub there : at < length ss
@@ -43,8 +44,8 @@ pub record SourceLeaves (head : Head) (table list strip : List ℕ) (ds ss : Lis
       present p (postingsLeft o) ≡
       ((present p (postingsBefore head table) || present p (postingsOf ds)) && not (present p (postingsOf (take (goneAt (byteAt strip (length ds + at)) at) ss))))
 
--- an undo goes from the last posting to the first, with its bytes from a place on; so the byte of each stands as far on as there are
--- postings behind it. Those whose byte is 1 stay
+-- an undo goes from the last posting to the first, with its bytes from a place on; so the byte of each stands as far on as there
+-- are postings behind it. Those whose byte is 1 stay
 unfoldable pub stuck : List ℕ → ℕ → List Numbered → List Numbered
 stuck strip from [] = []
 stuck strip from (d ∷ ds) =
@@ -72,8 +73,8 @@ module _ (head : Head) (table : List ℕ) (c : Call) where
   abbrev pub RemovalSourceLeaves : Outcome → Type 0
   RemovalSourceLeaves o = SourceLeaves head table (c .recordList) (c .strip) [] (sources (changesOf c)) o
 
-  -- 12 of prepare and publish: insertion `at` is the first to fail, and of the destinations before it those whose undo byte is 1 stay;
-  -- the record list is as it was lent
+  -- 12 of prepare and publish: insertion `at` is the first to fail, and of the destinations before it those whose undo byte is 1
+  -- stay; the record list is as it was lent
   pub record UndoLeaves (o : Outcome) : Type 0 where
     pub at : ℕ
     pub fails : Fails (capacity table) (head .used) (c .strip) (destinations (changesOf c)) at
@@ -90,8 +91,8 @@ module _ (head : Head) (table : List ℕ) (c : Call) where
         (i : ℕ) → i < at →
         present (getD (destinations (changesOf c)) i nowhere .posting) (postingsLeft o) ≡ eqb (byteAt (c .strip) (at + 1 + (at - (i + 1)))) 1
 
-  -- 12 of rollback: removal `at` is the last to fail, in the order of the undo; of the recorded destinations those whose byte is 1 stay
-  -- if they were there, and all others are gone; the record list is as it was lent
+  -- 12 of rollback: removal `at` is the last to fail, in the order of the undo; a recorded destination is gone where its byte, or
+  -- that of an equal one, is not 1, and where all of these are 1 it stays if it was there; the record list is as it was lent
   pub record RollbackLeaves (o : Outcome) : Type 0 where
     pub at : ℕ
     pub there : at < length (recordedIn c)

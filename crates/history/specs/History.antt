@@ -93,8 +93,8 @@ holding x ps = record { head = headWith (x .head) (length ps) 0; table = laidOut
 abbrev pub quiet : Call → Call
 quiet c = record { changeList = c .changeList; guardList = c .guardList; strip = []; recordList = c .recordList }
 
--- a call made again with no storage failure: the same changes, guards and record list, and any proper strip of which every byte that
--- is read is 0
+-- a call made again with no storage failure: the same changes, guards and record list, and any proper strip of which every byte
+-- that is read is 0
 pub record Again (c d : Call) : Type 0 where
   pub changeList : d .changeList ≡ c .changeList
   pub guardList : d .guardList ≡ c .guardList
@@ -138,8 +138,8 @@ pub record Right (x : Index) (start : List Posting) (cs : List Call) : Type 0 wh
   pub counts : (binding key : ℕ) → countedIn (after x cs) binding key ≡ ownCount x (said (accepted x cs) start) binding key
   -- and that is the number of rows that the accepted calls say
   pub rows : (binding key : ℕ) → CountSaid start (accepted x cs) binding key (counted binding key (said (accepted x cs) start))
-  -- the accepted calls made again with no storage failure, on an index of equal size and binding count that holds the same start, give
-  -- the same table and head, and the same answers and records on the way, number for number
+  -- the accepted calls made again with no storage failure, on an index of equal size and binding count that holds the same start,
+  -- give the same table and head, and the same answers and records on the way, number for number
   pub again : (y : Index) (ds : List Call) → Holds y start → Alike x y → AllAgain (accepted x cs) ds → after y ds ≡ after x cs
   pub againRecords :
       (y : Index) (ds : List Call) → Holds y start → Alike x y → AllAgain (accepted x cs) ds → outcomes y ds ≡ acceptedOutcomes x cs

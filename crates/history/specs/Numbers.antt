@@ -1,4 +1,4 @@
--- The numbers that each call can answer with.
+-- The numbers that each call may answer with; it uses no other.
 use Prim.Native.Nat.{ℕ}
 use mathlib.Core.List.{List, [], _∷_}
 
@@ -6,9 +6,9 @@ use mathlib.Core.List.{List, [], _∷_}
 abbrev pub prepareNumbers : List ℕ
 prepareNumbers = 0 ∷ 1 ∷ 2 ∷ 3 ∷ 4 ∷ 5 ∷ 6 ∷ 7 ∷ 8 ∷ 10 ∷ 11 ∷ 12 ∷ []
 
--- rollback: 0 to 4, 6, 14 and 12
+-- rollback: 0 to 4, 6, 12 and 14
 abbrev pub rollbackNumbers : List ℕ
-rollbackNumbers = 0 ∷ 1 ∷ 2 ∷ 3 ∷ 4 ∷ 6 ∷ 14 ∷ 12 ∷ []
+rollbackNumbers = 0 ∷ 1 ∷ 2 ∷ 3 ∷ 4 ∷ 6 ∷ 12 ∷ 14 ∷ []
 
 -- source removal: 0 to 4, 6 and 13
 abbrev pub removalNumbers : List ℕ

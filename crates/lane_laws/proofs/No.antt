@@ -194,7 +194,7 @@ module _ (strip : List ℕ) (window : ℕ) where
       let down = comes-down height attached read lane c in
       rw (down .2) (no-at lane (down .0) (byteFor read height lane) (rw (sym (down .1)) at n))
 
-  -- and one that comes to such a one meets an error
+  -- and one that comes to a lane of the window with an error byte meets an error
   cached-error :
       (height attached read : ℕ) → SomeError strip window attached read height →
       cachedPass strip height window attached read .said ≡ Said.Error
@@ -321,8 +321,8 @@ module _ (v : View) (strip : List ℕ) where
       absurd (omega arith)
   tried-one Said.Error Said.Error x y = refl
 
-  -- the refreshed pass tells 0 exactly where some lane below the height is in the window, and no byte is an error of as many as
-  -- there are such lanes
+  -- the refreshed pass tells 0 exactly where some lane below the height is in the window, and of the strip's first bytes, one to
+  -- each such lane, none is an error
   pub refreshed-no-exactly :
       refreshedChecks v strip ≡ Verdict.Passes →
       (refreshedOf v strip .answer ≡ Answer.Accepted 0)

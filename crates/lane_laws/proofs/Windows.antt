@@ -202,9 +202,9 @@ module _ (v : View) (strip : List ℕ) where
     lanes-alike lane l = below-same (v .window) window (v .height) lane alike l
 
     -- the checks of the cached pass and of detach do not look at the window
-    detach-checks-alike : entryChecks (withWindow v window) strip ≡ entryChecks v strip
+    entry-checks-alike : entryChecks (withWindow v window) strip ≡ entryChecks v strip
     unfolding entryChecks badHeight badView
-    detach-checks-alike = refl
+    entry-checks-alike = refl
 
     -- 22 looks below the height only, as no attached lane is above it
     bad-window-alike : Valid v → badWindow (withWindow v window) ≡ badWindow v
@@ -233,7 +233,7 @@ module _ (v : View) (strip : List ℕ) where
     pub cached-windows : SameButWindow (cachedOf v strip) (cachedOf (withWindow v window) strip)
     unfolding cachedOf
     cached-windows =
-        rw (detach-checks-alike, cached-alike strip (v .window) window (v .height) (v .attached) 0 lanes-alike)
+        rw (entry-checks-alike, cached-alike strip (v .window) window (v .height) (v .attached) 0 lanes-alike)
         (unless-same v window (entryChecks v strip) (pass-same v window (cachedWork v strip)))
 
     -- and so does the refreshed pass
@@ -248,7 +248,7 @@ module _ (v : View) (strip : List ℕ) where
     unfolding detachOf
     detach-windows lent =
         let same = detaching-alike strip (v .height) (v .window) window lanes-alike lent (v .attached) in
-        rw detach-checks-alike
+        rw entry-checks-alike
         (unless-same v window (entryChecks v strip) record {
           answer = same .0;
           height = refl;
@@ -263,6 +263,6 @@ module _ (v : View) (strip : List ℕ) where
     unfolding detachOf
     detach-window-set lent s =
         let told = told-no (s .no) in
-        rw (detach-checks-alike, told .0)
+        rw (entry-checks-alike, told .0)
         (ap (ended v)
         (detaching-set strip (v .height) (v .window) window lanes-alike lent (v .attached) (told .1) (s .some) (s .refreshes)))

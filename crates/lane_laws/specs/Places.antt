@@ -1,4 +1,4 @@
--- What each call answers, and where. The constructors of each shut each other out, and leave no case.
+-- What each call answers, and where. The constructors of each shut each other out and cover every case: see Places in proofs.
 use Prim.Native.Nat.{ℕ, _≤_, _<_}
 use mathlib.Core.Path.{_≡_}
 use mathlib.Core.List.{List}

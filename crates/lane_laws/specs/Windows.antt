@@ -26,7 +26,7 @@ pub record SameButWindow (a b : Done) : Type 0 where
   pub retired : b .view .retired ≡ a .view .retired
   pub attached : b .view .attached ≡ a .view .attached
 
--- a refresh of a detach sets the window: the cached pass says no, a round is lent, and the byte of its refresh is no error
+-- the first refresh of a detach sets the window: the cached pass says no, a round is lent, and the byte of its refresh is no error
 pub record SetsWindow (v : View) (strip : List ℕ) (lent : ℕ) : Type 0 where
   pub no : cachedOf v strip .answer ≡ Answer.Accepted 0
   pub some : 0 < lent

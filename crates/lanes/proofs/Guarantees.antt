@@ -99,8 +99,8 @@ module _ (v : View) (strip : List ℕ) (r : Done) (p : RefreshedPromise v strip 
       refreshed-so (λ (o : Done). (o .answer ≡ Answer.Accepted 1) ↔ NoneBelow (v .window) (v .height))
       (yes.refreshed-yes-exactly v strip c)
 
-  -- it tells 0 exactly where some lane below the height is in the window, and no byte is an error of as many as there are such
-  -- lanes
+  -- it tells 0 exactly where some lane below the height is in the window, and of the strip's first bytes, one to each such lane,
+  -- none is an error
   pub refreshed-no-exactly :
       refreshedChecks v strip ≡ Verdict.Passes →
       (r .answer ≡ Answer.Accepted 0)
@@ -143,7 +143,7 @@ module _ (v : View) (strip : List ℕ) (lent : ℕ) (r : Done) (p : DetachPromis
       entryChecks v strip ≡ Verdict.Passes → length strip + 2 ≤ lent → MetNoError (r .answer) → Retired r
   detach-retires c h = so (λ (o : Done). MetNoError (o .answer) → Retired o) (live.detach-retires v strip lent c h)
 
-  -- with a strip that has no error byte there is no word of the answer
+  -- nothing is asked of the answer where the strip has no error byte
   pub no-errors-retire : entryChecks v strip ≡ Verdict.Passes → length strip / 2 + 2 ≤ lent → NoErrors strip → Retired r
   no-errors-retire c h n = so Retired (live.no-errors-retire v strip lent c h n)
 
@@ -202,7 +202,7 @@ module _ (v : View) (strip : List ℕ) (lent : ℕ) (r : Done) (p : DetachPromis
       so (λ (o : Done). (o .view .retired ≡ 1) ↔ (isAccepted (o .answer) ≡ true)) (exactly.retired-exactly v strip lent c)
 
 module _ (v : View) (strip : List ℕ) (window : ℕ) (r s : Done) (alike : AlikeBelow (v .height) (v .window) window) where
-  -- two passes from views that differ only in window bits at or above the height give the same answer and leave the same lanes
+  -- two cached passes from views that differ only in window bits at or above the height give the same answer and leave the same lanes
   pub cached-windows : CachedPromise v strip r → CachedPromise (withWindow v window) strip s → SameButWindow r s
   cached-windows p q =
       cached-so v strip r p (λ (o : Done). SameButWindow o s)

@@ -63,7 +63,7 @@ fn bad_view(view: View) -> bool
 }
 
 // The checks of the cached pass and of detach, in their order.
-fn detach_checks(view: View, strip: &[u8]) -> Verdict
+fn entry_checks(view: View, strip: &[u8]) -> Verdict
     ensures { λ r. ⌜ r ≡ entryChecks view (now (strip .entry)) ⌝ }
 {
     if bad_height(view) {
@@ -159,7 +159,7 @@ fn after_detach(view: View, end: Ended) -> Done
 pub fn cached_detach(view: View, contents: &[u32], strip: &[u8]) -> Done
     ensures { λ r. ⌜ CachedPromise view (now (strip .entry)) r ⌝ }
 {
-    match detach_checks(view, strip) {
+    match entry_checks(view, strip) {
         Verdict::Refused(answer) => Done { view, answer },
         Verdict::Passes => after_pass(
             view,
@@ -186,7 +186,7 @@ pub fn refreshed_detach(view: View, contents: &[u32], strip: &[u8]) -> Done
 pub fn detach_before_retire(view: View, contents: &[u32], strip: &[u8], rounds: u32) -> Done
     ensures { λ r. ⌜ DetachPromise view (now (strip .entry)) rounds r ⌝ }
 {
-    match detach_checks(view, strip) {
+    match entry_checks(view, strip) {
         Verdict::Refused(answer) => Done { view, answer },
         Verdict::Passes => after_detach(
             view,

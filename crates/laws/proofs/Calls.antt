@@ -119,40 +119,40 @@ module _ (head : Head) (table : List ℕ) (c : Call) where
       (λ a. s)
 
   -- so a well-formed table stays well formed
-  decided-well-formed :
+  unless-well-formed :
       (v : Verdict) (list : List ℕ) (s : Stage) → (v ≡ Verdict.Passes → Sound (head .bindings) (capacity table) (s .postings)) →
       StaysWellFormed head table (unlessRefused v (asBefore head table (c .recordList)) (shown head table list s))
-  decided-well-formed (Verdict.Refused a) list s f h = h
-  decided-well-formed Verdict.Passes list s f h =
+  unless-well-formed (Verdict.Refused a) list s f h = h
+  unless-well-formed Verdict.Passes list s f h =
       let w = well-formed-parts head table h in
       well-formed-laid-out head (headAfter head (s .answer) (s .postings)) table (s .postings) w (f refl) refl refl
       (by-cases (λ (n : ℕ). n ≤ 1) (poisons (s .answer)) (λ e. omega arith) (λ e. w .flag))
 
   pub prepare-well-formed : StaysWellFormed head table (prepareOf head table c)
   unfolding prepareOf
-  prepare-well-formed h = decided-well-formed (prepareChecks head table c) _ (prepared head table c) prepare-shows h
+  prepare-well-formed h = unless-well-formed (prepareChecks head table c) _ (prepared head table c) prepare-shows h
 
   pub rollback-well-formed : StaysWellFormed head table (rollbackOf head table c)
   unfolding rollbackOf
-  rollback-well-formed h = decided-well-formed (rollbackChecks head table c) _ (rolledBack (undid head table c)) rollback-shows h
+  rollback-well-formed h = unless-well-formed (rollbackChecks head table c) _ (rolledBack (undid head table c)) rollback-shows h
 
   pub removal-well-formed : StaysWellFormed head table (removalOf head table c)
   unfolding removalOf
-  removal-well-formed h = decided-well-formed (removalChecks head table c) _ (removedAlone head table c) removal-shows h
+  removal-well-formed h = unless-well-formed (removalChecks head table c) _ (removedAlone head table c) removal-shows h
 
   pub publish-well-formed : StaysWellFormed head table (publishOf head table c)
   unfolding publishOf
   publish-well-formed h =
-      decided-well-formed (publishChecks head table c) _ (thenSources (c .strip) (leaving c) (prepared head table c)) publish-shows h
+      unless-well-formed (publishChecks head table c) _ (thenSources (c .strip) (leaving c) (prepared head table c)) publish-shows h
 
   -- and binding count and size stay at every answer, and the poison flag at all but 12 and 13
-  decided-stable :
+  unless-stable :
       (v : Verdict) (list : List ℕ) (s : Stage) → isProper v ≡ true →
       (v ≡ Verdict.Passes → Sound (head .bindings) (capacity table) (s .postings)) →
       Stable head table (unlessRefused v (asBefore head table (c .recordList)) (shown head table list s))
-  decided-stable (Verdict.Refused a) list s h f =
+  unless-stable (Verdict.Refused a) list s h f =
       record { bindings = refl; flag = rw (unchanged-poisons-not a (refusal-unchanged a h)); size = refl }
-  decided-stable Verdict.Passes list s h f =
+  unless-stable Verdict.Passes list s h f =
       record {
         bindings = refl;
         flag = refl;
@@ -161,21 +161,21 @@ module _ (head : Head) (table : List ℕ) (c : Call) where
 
   pub prepare-stable : Stable head table (prepareOf head table c)
   unfolding prepareOf
-  prepare-stable = decided-stable (prepareChecks head table c) _ (prepared head table c) (prepare-proper head table c) prepare-shows
+  prepare-stable = unless-stable (prepareChecks head table c) _ (prepared head table c) (prepare-proper head table c) prepare-shows
 
   pub rollback-stable : Stable head table (rollbackOf head table c)
   unfolding rollbackOf
   rollback-stable =
-      decided-stable (rollbackChecks head table c) _ (rolledBack (undid head table c)) (rollback-proper head table c) rollback-shows
+      unless-stable (rollbackChecks head table c) _ (rolledBack (undid head table c)) (rollback-proper head table c) rollback-shows
 
   pub removal-stable : Stable head table (removalOf head table c)
   unfolding removalOf
-  removal-stable = decided-stable (removalChecks head table c) _ (removedAlone head table c) (removal-proper head table c) removal-shows
+  removal-stable = unless-stable (removalChecks head table c) _ (removedAlone head table c) (removal-proper head table c) removal-shows
 
   pub publish-stable : Stable head table (publishOf head table c)
   unfolding publishOf
   publish-stable =
-      decided-stable (publishChecks head table c) _ (thenSources (c .strip) (leaving c) (prepared head table c)) (publish-proper head table c) publish-shows
+      unless-stable (publishChecks head table c) _ (thenSources (c .strip) (leaving c) (prepared head table c)) (publish-proper head table c) publish-shows
 
   -- a poisoned table is refused with 2 by every call, and nothing changes
   pub prepare-poisoned : RefusesPoisoned head table c (prepareOf head table c)

@@ -198,11 +198,11 @@ unfolding firstFailing
 failing-rest test answer i x xs h = else-second (must (test x) (answer i x)) (firstFailing test answer (i + 1) xs) h
 
 -- a guarded change names destinations within the binding count
-guarded-within :
+guarded-below :
     (n : ℕ) (gs : List Guard) (i : ℕ) (c : Change) (ds : List Numbered) → guarded n gs c ≡ true →
     every (bindingBelow n) (postingsOf ds) ≡ true → every (bindingBelow n) (postingsOf (named i c (destinationOf c) ds)) ≡ true
 unfolding guarded every bindingBelow
-guarded-within n gs i c ds h k = go (destinationOf c)
+guarded-below n gs i c ds h k = go (destinationOf c)
   where
     below : ltb (c .binding) n ≡ true
     below =
@@ -213,14 +213,14 @@ guarded-within n gs i c ds h k = go (destinationOf c)
     go Key.Missing = k
     go (Key.Named key) = and-intro below k
 
-destinations-within :
+destinations-below :
     (n : ℕ) (gs : List Guard) (answer : ℕ → Change → Answer) (i j : ℕ) (cs : List Change) →
     firstFailing (guarded n gs) answer j cs ≡ Verdict.Passes → every (bindingBelow n) (postingsOf (destinationsFrom i cs)) ≡ true
 unfolding destinationsFrom every
-destinations-within n gs answer i j [] h = refl
-destinations-within n gs answer i j (c ∷ cs) h =
-    guarded-within n gs i c (destinationsFrom (i + 1) cs) (failing-first (guarded n gs) answer j c cs h)
-    (destinations-within n gs answer (i + 1) (j + 1) cs (failing-rest (guarded n gs) answer j c cs h))
+destinations-below n gs answer i j [] h = refl
+destinations-below n gs answer i j (c ∷ cs) h =
+    guarded-below n gs i c (destinationsFrom (i + 1) cs) (failing-first (guarded n gs) answer j c cs h)
+    (destinations-below n gs answer (i + 1) (j + 1) cs (failing-rest (guarded n gs) answer j c cs h))
 
 -- destinations that are neither in the table nor twice in the list are new, each when its turn comes
 not-among :
@@ -304,7 +304,7 @@ module _ (head : Head) (table : List ℕ) (c : Call) where
         places =
             leb-true (length (changesOf c)) (length (c .recordList))
             (must-holds (leb (length (changesOf c)) (length (c .recordList))) Answer.Room (first-passes _ _ h5));
-        bound = destinations-within (head .bindings) _ _ 0 0 (changesOf c) (first-passes _ _ h6);
+        bound = destinations-below (head .bindings) _ _ 0 0 (changesOf c) (first-passes _ _ h6);
         fresh =
             fresh-from (postings (head .used) table) (postings (head .used) table) [] (destinations (changesOf c)) _ 0 (λ p. refl)
             (first-passes _ _ h7)

@@ -75,7 +75,7 @@ AsBefore head table c o = isUnchanged (o .answer) ≡ true → o ≡ asBefore he
 abbrev pub StaysWellFormed : Head → List ℕ → Outcome → Type 0
 StaysWellFormed head table o = wellFormed head table ≡ true → wellFormed (o .head) (o .table) ≡ true
 
--- a poisoned table is refused with 2, and nothing changes
+-- a well-formed table that is poisoned is refused with 2, and nothing changes
 abbrev pub RefusesPoisoned : Head → List ℕ → Call → Outcome → Type 0
 RefusesPoisoned head table c o =
     wellFormed head table ≡ true → head .poisoned ≡ 1 → o ≡ asBefore head table (c .recordList) Answer.Poisoned

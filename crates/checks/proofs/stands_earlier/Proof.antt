@@ -7,7 +7,7 @@ use lib.ListN.{take, drop}
 use borrow.Author.Needs.{needs}
 use borrow.Author.Tests.{eq-eqb, ne-eqb}
 use Rattle.lent_lists.specs.Among.{among}
-use Rattle.checks.proofs.Numbers.{among-left, among-none}
+use Rattle.checks.proofs.Numbers.{among-left, earlier-none}
 use Rattle.checks.proofs.stands_earlier.Statement.{statement}
 use Rattle.checks.proofs.stands_earlier.Tie as tie
 
@@ -52,7 +52,7 @@ returns-2 : tie.Need-returns-2 Inv-loop μ-loop
 returns-2 c =
     let at = c .before in
     sym
-    (at .loop .inv .1 ∙ among-none _ (at .before .args .«record» .now) _ (at .before .pre) (at .loop .i) (c .loop-test .left))
+    (at .loop .inv .1 ∙ earlier-none _ (at .before .args .«record» .now) _ (at .before .pre) (at .loop .i) (c .loop-test .left))
 
 pub stands-earlier-spec : {M : Type 1} → statement M
 stands-earlier-spec =

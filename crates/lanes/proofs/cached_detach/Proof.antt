@@ -6,8 +6,8 @@ use Rattle.lanes.specs.Promises.{seen}
 use Rattle.lanes.proofs.cached_detach.Statement.{statement}
 use Rattle.lanes.proofs.cached_detach.Tie as tie
 
-detach-checks-requires : tie.Need-detach-checks-requires
-detach-checks-requires c κs = search needs
+entry-checks-requires : tie.Need-entry-checks-requires
+entry-checks-requires c κs = search needs
 
 enum-known-answer : tie.Need-enum-known-answer
 enum-known-answer c = search needs
@@ -23,12 +23,12 @@ after-pass-requires c κs = search needs
 
 returns : tie.Need-returns
 unfolding cachedOf
-returns c = rw (sym (c .before .before .before .detach-checks .ensures) ∙ c .before .answer .given .1)
+returns c = rw (sym (c .before .before .before .entry-checks .ensures) ∙ c .before .answer .given .1)
 
 returns-2 : tie.Need-returns-2
 unfolding cachedOf
 returns-2 c =
-    let passes = sym (c .before .before .before .before .detach-checks .ensures) ∙ c .before .before .enum-told .given .1 in
+    let passes = sym (c .before .before .before .before .entry-checks .ensures) ∙ c .before .before .enum-told .given .1 in
     let view = c .before .before .before .before .before .before .before .args .view in
     rw passes (ap seen (c .after-pass .ensures ∙ ap (passed view) (c .before .cached-pass .ensures)))
 
@@ -36,7 +36,7 @@ pub cached-detach-spec : {M : Type 1} → statement M
 cached-detach-spec =
     tie.close
     (tie.spec
-    detach-checks-requires
+    entry-checks-requires
     enum-known-answer
     enum-told
     cached-pass-requires

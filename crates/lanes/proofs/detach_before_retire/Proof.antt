@@ -7,8 +7,8 @@ use Rattle.lanes.specs.Promises.{seen}
 use Rattle.lanes.proofs.detach_before_retire.Statement.{statement}
 use Rattle.lanes.proofs.detach_before_retire.Tie as tie
 
-detach-checks-requires : tie.Need-detach-checks-requires
-detach-checks-requires c κs = search needs
+entry-checks-requires : tie.Need-entry-checks-requires
+entry-checks-requires c κs = search needs
 
 enum-known-answer : tie.Need-enum-known-answer
 enum-known-answer c = search needs
@@ -17,19 +17,19 @@ enum-told : tie.Need-enum-told
 enum-told c = search needs
 
 detach-requires : tie.Need-detach-requires
-detach-requires c κs = height-most _ _ (sym (c .before .before .detach-checks .ensures) ∙ c .enum-told .given .1)
+detach-requires c κs = height-most _ _ (sym (c .before .before .entry-checks .ensures) ∙ c .enum-told .given .1)
 
 after-detach-requires : tie.Need-after-detach-requires
 after-detach-requires c κs = search needs
 
 returns : tie.Need-returns
 unfolding detachOf
-returns c = rw (sym (c .before .before .before .detach-checks .ensures) ∙ c .before .answer .given .1)
+returns c = rw (sym (c .before .before .before .entry-checks .ensures) ∙ c .before .answer .given .1)
 
 returns-2 : tie.Need-returns-2
 unfolding detachOf
 returns-2 c =
-    let passes = sym (c .before .before .before .before .detach-checks .ensures) ∙ c .before .before .enum-told .given .1 in
+    let passes = sym (c .before .before .before .before .entry-checks .ensures) ∙ c .before .before .enum-told .given .1 in
     let view = c .before .before .before .before .before .before .before .args .view in
     rw passes (ap seen (c .after-detach .ensures ∙ ap (ended view) (c .before .detach .ensures)))
 
@@ -37,7 +37,7 @@ pub detach-before-retire-spec : {M : Type 1} → statement M
 detach-before-retire-spec =
     tie.close
     (tie.spec
-    detach-checks-requires
+    entry-checks-requires
     enum-known-answer
     enum-told
     detach-requires

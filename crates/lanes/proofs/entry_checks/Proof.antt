@@ -3,8 +3,8 @@ use mathlib.Core.Path.{sym, _∙_}
 use borrow.Author.Tests.{not-true, not-false}
 use borrow.Author.Needs.{needs}
 use Rattle.lanes.proofs.Checking.{detach-height, detach-view, detach-strip, detach-none}
-use Rattle.lanes.proofs.detach_checks.Statement.{statement}
-use Rattle.lanes.proofs.detach_checks.Tie as tie
+use Rattle.lanes.proofs.entry_checks.Statement.{statement}
+use Rattle.lanes.proofs.entry_checks.Tie as tie
 
 bad-height-requires : tie.Need-bad-height-requires
 bad-height-requires c κs = search needs
@@ -37,8 +37,8 @@ returns-4 c =
     let view = sym (at .before .bad-view .ensures) ∙ at .if2 .left in
     detach-none _ _ height view (sym (c .before .proper-strip .ensures) ∙ not-false _ (c .if3 .left))
 
-pub detach-checks-spec : {M : Type 1} → statement M
-detach-checks-spec =
+pub entry-checks-spec : {M : Type 1} → statement M
+entry-checks-spec =
     tie.close
     (tie.spec
     bad-height-requires
