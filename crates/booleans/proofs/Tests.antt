@@ -16,6 +16,7 @@ pub by-cases : {A : Type 0} (P : A → Type 0) (b : Bool) {x y : A} → (b ≡ t
 by-cases P true f g = f refl
 by-cases P false f g = g refl
 
+-- a test is true or false
 pub either : (b : Bool) → (b ≡ true) ⊎ (b ≡ false)
 either true = inl refl
 either false = inr refl
@@ -26,6 +27,7 @@ pub data Tri (a b : ℕ) : Type 0 where
   equal : a ≡ b → Tri a b
   more : b < a → Tri a b
 
+-- any two numbers stand in one of these ways
 pub tri : (a b : ℕ) → Tri a b
 tri a b = go (ltb a b) refl (ltb b a) refl
   where
@@ -37,17 +39,21 @@ tri a b = go (ltb a b) refl (ltb b a) refl
         let k = ltb-false b a q in
         equal (omega arith)
 
+-- no test is both true and false
 pub clash : (b : Bool) → b ≡ true → b ≡ false → ⊥
 clash b p q = impossible (cc)
 
+-- where a choice of two tests is false, so is the first
 pub or-left : (a b : Bool) → (a || b) ≡ false → a ≡ false
 or-left true b h = h
 or-left false b h = refl
 
+-- and so is the second
 pub or-right : (a b : Bool) → (a || b) ≡ false → b ≡ false
 or-right true b h = absurd (clash true refl h)
 or-right false b h = h
 
+-- where two tests are false, so is their choice
 pub neither : (a b : Bool) → a ≡ false → b ≡ false → (a || b) ≡ false
 neither a b p q = rw (p, q)
 

@@ -42,6 +42,7 @@ module _ (marked : Posting → Bool) (answer : ℕ → Answer) where
       (any-place (λ (d : Numbered). not (marked (d .posting))) (λ (d : Numbered). answer (d .number)) (0 + 1) 0 others)
 
   module _ (cs : List Change) (i : ℕ) where
+    -- of the destinations from change i on the first marked is that of change i, where it is marked, or else the first after it
     pub first-destination :
         (c : Change) (b : Bool) → i < length cs → c ≡ getD cs i noChange → underKey c (destinationOf c) marked ≡ b →
         firstOf marked answer (destinationsFrom i (drop i cs)) ≡ orElse (must (not b) (answer i))
@@ -50,6 +51,7 @@ module _ (marked : Posting → Bool) (answer : ℕ → Answer) where
         rw (destinations-left cs i h, ← r)
         (first-named i c (destinationOf c) (destinationsFrom (i + 1) (drop (i + 1) cs)) ∙ rw e)
 
+    -- so it is of the sources
     pub first-source :
         (c : Change) (b : Bool) → i < length cs → c ≡ getD cs i noChange → underKey c (sourceOf c) marked ≡ b →
         firstOf marked answer (sourcesFrom i (drop i cs)) ≡ orElse (must (not b) (answer i))
@@ -58,10 +60,12 @@ module _ (marked : Posting → Bool) (answer : ℕ → Answer) where
         rw (sources-left cs i h, ← r)
         (first-named i c (sourceOf c) (sourcesFrom (i + 1) (drop (i + 1) cs)) ∙ rw e)
 
+    -- past the last change no destination is marked
     pub no-destination : length cs ≤ i → firstOf marked answer (destinationsFrom i (drop i cs)) ≡ Verdict.Passes
     unfolding firstFailing
     no-destination h = rw (destinations-none cs i h)
 
+    -- nor is a source
     pub no-source : length cs ≤ i → firstOf marked answer (sourcesFrom i (drop i cs)) ≡ Verdict.Passes
     unfolding firstFailing
     no-source h = rw (sources-none cs i h)
@@ -76,6 +80,7 @@ module _ (p : Posting) where
   present-named i c (Key.Named key) others =
       ap (λ b. b || present p (postingsOf others)) (same-turned p (record { binding = c .binding; key = key; row = c .row }))
 
+  -- p is among those from change i on exactly if change i goes to it or it is among those after
   pub present-left :
       (cs : List Change) (i : ℕ) (b : Bool) → i < length cs → goesTo (getD cs i noChange) p ≡ b →
       present p (postingsOf (destinationsFrom i (drop i cs))) ≡
@@ -85,6 +90,7 @@ module _ (p : Posting) where
       (present-named i (getD cs i noChange) (destinationOf (getD cs i noChange)) (destinationsFrom (i + 1) (drop (i + 1) cs))
       ∙ rw e)
 
+  -- past the last change it is not among them
   pub present-none :
       (cs : List Change) (i : ℕ) → length cs ≤ i → present p (postingsOf (destinationsFrom i (drop i cs))) ≡ false
   unfolding present

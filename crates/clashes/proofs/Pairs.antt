@@ -57,10 +57,12 @@ seek cs j i = sought j (at cs j) (destinationOf (at cs j)) (destinationsFrom i (
 pub pairsFrom : List Change → ℕ → Verdict
 pairsFrom cs j = twiceFrom (destinations (take j cs)) (destinationsFrom j (drop j cs))
 
+-- the search for two equal destinations is the one from the first change on
 pub pairs-all : (cs : List Change) → twiceFrom [] (destinations cs) ≡ pairsFrom cs 0
 unfolding pairsFrom destinationsFrom
 pairs-all cs = refl
 
+-- past the last change there is no pair left
 pub pairs-none : (cs : List Change) (j : ℕ) → length cs ≤ j → pairsFrom cs j ≡ Verdict.Passes
 unfolding pairsFrom twiceFrom
 pairs-none cs j h = rw (destinations-none cs j h)
@@ -93,16 +95,19 @@ module _ (cs : List Change) (j : ℕ) (h : j < length cs) where
       (twice-named j (at cs j) (destinationOf (at cs j)) (destinations (take j cs))
       (destinationsFrom (j + 1) (drop (j + 1) cs)))
 
+  -- where changes i and j do not have one destination, the search for j goes on with i + 1
   pub seek-further :
       (i : ℕ) → i < j → oneDestination (at cs i) (at cs j) ≡ false → seek cs j i ≡ seek cs j (i + 1)
   seek-further i k e = seek-left i false k e
 
   -- with the changes before i already passed
   module _ (i : ℕ) (s : seek cs j 0 ≡ seek cs j i) where
+    -- where i and j have one destination, the search from j on refuses with 7 and names both
     pub pairs-found :
         i < j → oneDestination (at cs i) (at cs j) ≡ true →
         pairsFrom cs j ≡ Verdict.Refused (Answer.Twice i j)
     pairs-found k e = pairs-left ∙ ap (λ v. orElse v (pairsFrom cs (j + 1))) (s ∙ seek-left i true k e)
 
+    -- where i has come up to j, the search goes on with j + 1
     pub pairs-further : j ≤ i → pairsFrom cs j ≡ pairsFrom cs (j + 1)
     pairs-further k = pairs-left ∙ ap (λ v. orElse v (pairsFrom cs (j + 1))) (s ∙ seek-none i k)

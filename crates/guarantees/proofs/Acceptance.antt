@@ -25,15 +25,19 @@ pub answer-of : (r : Done) (t l : List ℕ) (o : Outcome) → seen r t l ≡ see
 answer-of r t l o e = ap (λ (x : Outcome). x .answer) (seen-outcome r t l o e)
 
 module _ (head : Head) (table : List ℕ) (c : Call) (r : Done) (t l : List ℕ) where
+  -- a prepare that keeps its promise gives each answer exactly where its condition holds
   pub prepare-exactly : PreparePromise head table c r t l → (a : Answer) → (r .answer ≡ a) ↔ PrepareAnswers head table c a
   prepare-exactly k = rw (answer-of r t l (prepareOf head table c) k) (law.prepare-exactly head table c)
 
+  -- so does a rollback
   pub rollback-exactly : RollbackPromise head table c r t l → (a : Answer) → (r .answer ≡ a) ↔ RollbackAnswers head table c a
   rollback-exactly k = rw (answer-of r t l (rollbackOf head table c) k) (law.rollback-exactly head table c)
 
+  -- so does a source removal
   pub removal-exactly : RemovalPromise head table c r t l → (a : Answer) → (r .answer ≡ a) ↔ RemovalAnswers head table c a
   removal-exactly k = rw (answer-of r t l (removalOf head table c) k) (law.removal-exactly head table c)
 
+  -- so does a publish
   pub publish-exactly : PublishPromise head table c r t l → (a : Answer) → (r .answer ≡ a) ↔ PublishAnswers head table c a
   publish-exactly k = rw (answer-of r t l (publishOf head table c) k) (law.publish-exactly head table c)
 
@@ -45,6 +49,7 @@ module _ (head : Head) (table : List ℕ) (c : Call) (r : Done) (t l : List ℕ)
   pub accepted-leaves : PublishPromise head table c r t l → Acceptable head table c → Leaves head table c (outcomeOf r t l)
   accepted-leaves k a = rw (seen-outcome r t l (publishOf head table c) k) (law.accepted-leaves head table c a)
 
+-- a count that keeps its promise gives each answer exactly where its condition holds
 pub count-exactly :
     (head : Head) (table : List ℕ) (binding key : ℕ) (b : Answer) → CountPromise head table binding key b → (a : Answer) →
     (b ≡ a) ↔ CountAnswers head table binding key a

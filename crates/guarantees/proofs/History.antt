@@ -170,11 +170,13 @@ made-of x (c ∷ cs) =
     record { call = c; result = record { head = o .head; answer = o .answer }; table = o .table; recordList = o .recordList }
     ∷ made-of (indexOf o) cs
 
+-- what the rules answer and leave at these calls, one by one, is a run
 pub made-run : (x : Index) (cs : List Call) → Run x (made-of x cs)
 unfolding made-of
 made-run x [] = none
 made-run x (c ∷ cs) = next refl (made-run (indexOf (published x c)) cs)
 
+-- and what that run was lent is just these calls, in order
 pub made-calls : (x : Index) (cs : List Call) → calls (made-of x cs) ≡ cs
 unfolding made-of
 made-calls x [] = refl

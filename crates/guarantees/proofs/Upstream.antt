@@ -19,12 +19,15 @@ use Rattle.publish.specs.Promises.{PreparePromise, RollbackPromise, RemovalProm
 use Rattle.publish.proofs.Outcomes.{seen-outcome}
 
 module _ (head : Head) (table : List ℕ) (c : Call) (r : Done) (t l : List ℕ) where
+  -- a prepare that keeps its promise meets every clause of upstream's prepare_index_destinations
   pub prepare-clauses : PreparePromise head table c r t l → PrepareClauses head table c (outcomeOf r t l)
   prepare-clauses k = rw (seen-outcome r t l (prepareOf head table c) k) (law.prepare-clauses head table c)
 
+  -- a rollback meets every clause of rollback_index_destinations
   pub rollback-clauses : RollbackPromise head table c r t l → RollbackClauses head table c (outcomeOf r t l)
   rollback-clauses k = rw (seen-outcome r t l (rollbackOf head table c) k) (law.rollback-clauses head table c)
 
+  -- a source removal meets every clause of remove_index_sources
   pub removal-clauses : RemovalPromise head table c r t l → RemovalClauses head table c (outcomeOf r t l)
   removal-clauses k = rw (seen-outcome r t l (removalOf head table c) k) (law.removal-clauses head table c)
 

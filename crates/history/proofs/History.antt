@@ -165,14 +165,17 @@ strip-checks head table c strip p h1 =
     cons-passes _ _ (first-passes _ _ h1)
     (cons-passes _ _ (first-passes _ _ h2) (cons-passes _ _ (first-passes _ _ h3) (cons-passes _ _ (strip-passes c strip p) h5)))
 
+-- a call made again is the same call but for its strip
 again-is : (c d : Call) → Again c d → d ≡ withStrip c (d .strip)
 again-is c d a i = record { changeList = a .changeList i; guardList = a .guardList i; strip = d .strip; recordList = a .recordList i }
 
+-- an acceptable call is so too with the strip with which it is made again
 again-acceptable :
     (head : Head) (table : List ℕ) (c d : Call) → Again c d → Acceptable head table c → Acceptable head table (withStrip c (d .strip))
 again-acceptable head table c d a k =
     record { passes = strip-checks head table c (d .strip) (a .proper) (k .passes); room = k .room; quiet = a .quiet }
 
+-- an acceptable call made again on the same index answers and leaves the same
 pub again-same : (x : Index) (c d : Call) → Again c d → Acceptable (x .head) (x .table) c → published x d ≡ published x c
 again-same x c d a k =
     ap (published x) (again-is c d a)
@@ -184,10 +187,12 @@ quiet-again : (c : Call) → Again c (quiet c)
 unfolding properStrip properBytes
 quiet-again c = record { changeList = refl; guardList = refl; recordList = refl; proper = refl; quiet = λ i h k. refl }
 
+-- any calls with empty strips are those calls made again
 all-quiet : (cs : List Call) → AllAgain cs (map quiet cs)
 all-quiet [] = none
 all-quiet (c ∷ cs) = next (quiet-again c) (all-quiet cs)
 
+-- the accepted calls of an unbroken history, made again from the same index on, leave the same table and head
 pub again-after :
     (x : Index) (cs ds : List Call) → unbroken x cs ≡ true → AllAgain (accepted x cs) ds → after x ds ≡ after x cs
 unfolding after accepted
@@ -213,6 +218,7 @@ again-after x (c ∷ cs) ds h r = go (step x c) (λ es. again-after (indexOf (pu
     go (takes a n p) ih q = taken a ih ds (rw n at q)
     go (breaks n p) ih q = absurd (clash (poisons (published x c .answer)) p (unbroken-first x c cs h))
 
+-- and each of them answers and leaves what it did the first time
 pub again-outcomes :
     (x : Index) (cs ds : List Call) → unbroken x cs ≡ true → AllAgain (accepted x cs) ds → outcomes x ds ≡ acceptedOutcomes x cs
 unfolding outcomes accepted acceptedOutcomes

@@ -50,6 +50,7 @@ module _ (strip : List ℕ) (clear : Answer) where
   halts-here d ds byte ps (inl e) = rw e
   halts-here d ds byte ps (inr e) = rw e
 
+  -- a source removal that fails leaves the list without the sources before the failed one, and without it too where its byte is 2
   pub halts-leaves :
       (items : List Numbered) (read j : ℕ) (ps : List Posting) → j < length items → Quiet strip read (read + j) →
       (byteAt strip (read + j) ≡ 0 → ⊥) → byteAt strip (read + j) ≤ 2 →
@@ -133,6 +134,7 @@ module _ (strip : List ℕ) where
       ∙ (undoing-verdict done _ Verdict.Passes (read + length ds + 1) _
       ∙ (λ i. undoing strip done Verdict.Passes (e i) (freed-next d ds read ps i) .postings))
 
+  -- an undo from the last posting to the first leaves the list without those whose byte is not 1
   pub undoing-leaves :
       (ds : List Numbered) (v : Verdict) (read : ℕ) (ps : List Posting) →
       undoing strip (reverse ds) v read ps .postings ≡ takenAway (freed strip read ds) ps

@@ -109,6 +109,7 @@ module _ (head : Head) (table : List ℕ) (c : Call) where
       says-opening prepareNumbers head table c _ refl refl refl refl
       (says-inserting prepareNumbers head table c _ refl refl refl refl (says-none prepareNumbers))
 
+  -- prepare answers with no number but 0 to 8, 10, 11 and 12
   pub prepare-among : among (toldOf (prepareOf head table c .answer) .answer) prepareNumbers ≡ true
   unfolding among
   prepare-among = answered-among prepareNumbers (prepareChecks head table c) _ prepare-says ends _ (prepare-answered head table c)
@@ -130,6 +131,7 @@ module _ (head : Head) (table : List ℕ) (c : Call) where
       (says-cons rollbackNumbers _ _ (says-6 rollbackNumbers head table c refl)
       (says-cons rollbackNumbers _ _ (says-14 rollbackNumbers head table c refl) (says-none rollbackNumbers)))
 
+  -- rollback answers with no number but 0 to 4, 6, 12 and 14
   pub rollback-among : among (toldOf (rollbackOf head table c .answer) .answer) rollbackNumbers ≡ true
   unfolding among
   rollback-among = answered-among rollbackNumbers (rollbackChecks head table c) _ rollback-says ends _ (rollback-answered head table c)
@@ -145,6 +147,7 @@ module _ (head : Head) (table : List ℕ) (c : Call) where
       says-opening removalNumbers head table c _ refl refl refl refl
       (says-cons removalNumbers _ _ (says-6 removalNumbers head table c refl) (says-none removalNumbers))
 
+  -- source removal answers with no number but 0 to 4, 6 and 13
   pub removal-among : among (toldOf (removalOf head table c .answer) .answer) removalNumbers ≡ true
   unfolding among
   removal-among = answered-among removalNumbers (removalChecks head table c) _ removal-says ends _ (removal-answered head table c)
@@ -161,6 +164,7 @@ module _ (head : Head) (table : List ℕ) (c : Call) where
       (says-inserting publishNumbers head table c _ refl refl refl refl
       (says-cons publishNumbers _ _ (says-9 publishNumbers head table c refl) (says-none publishNumbers)))
 
+  -- publish answers with no number but 0 to 13
   pub publish-among : among (toldOf (publishOf head table c .answer) .answer) publishNumbers ≡ true
   unfolding among
   publish-among = answered-among publishNumbers (publishChecks head table c) _ publish-says ends _ (publish-answered head table c)
@@ -182,6 +186,7 @@ count-says head table binding =
     (says-cons countNumbers _ _ (says-must countNumbers (eqb (head .poisoned) 0) Answer.Poisoned refl)
     (says-cons countNumbers _ _ (says-must countNumbers (ltb binding (head .bindings)) (Answer.Guard 0) refl) (says-none countNumbers)))
 
+-- count answers with no number but 0, 1, 2 and 6
 pub count-among :
     (head : Head) (table : List ℕ) (binding key : ℕ) → among (toldOf (countOf head table binding key) .answer) countNumbers ≡ true
 unfolding among

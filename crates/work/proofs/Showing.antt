@@ -41,6 +41,7 @@ used-fits head t₀ t used ps w l h =
     omega arith
 
 module _ (head : Head) (t₀ t list : List ℕ) (len : length t ≡ length t₀) where
+  -- what a part of a call reached in the table, with its head and the record list, is what the rules show of it
   pub reached-shown :
       (s : Stage) (r : Reached) (most : ℕ) → StageIn s r t most → outcomeOf (doneOf head r) t list ≡ shown head t₀ list s
   reached-shown s r most h =
@@ -73,6 +74,7 @@ module _ (head : Head) (t₀ t list₀ : List ℕ) (ds : List Numbered) (s : Sta
   said : (b : Bool) → isAccepted (r .answer) ≡ b → isAccepted (s .answer) ≡ b
   said b e = ap isAccepted (sym (h .answer)) ∙ e
 
+  -- where all are in, what prepare reached, with the record written, is what the rules show of prepare
   pub prepared-in :
       (list : List ℕ) → length t ≡ length t₀ → isAccepted (r .answer) ≡ true → list ≡ written (changeNumbers ds) list₀ →
       outcomeOf (doneOf head r) t list ≡ shown head t₀ (recordAfter s ds list₀) s
@@ -81,6 +83,7 @@ module _ (head : Head) (t₀ t list₀ : List ℕ) (ds : List Numbered) (s : Sta
       ∙ ap (λ (l : List ℕ). shown head t₀ l s)
       (w ∙ ap (λ (b : Bool). cond b (written (changeNumbers ds) list₀) list₀) (sym (said true e)))
 
+  -- where not all are in, what it reached, with the record list as it was, is what the rules show of prepare
   pub prepared-not :
       length t ≡ length t₀ → isAccepted (r .answer) ≡ false →
       outcomeOf (doneOf head r) t list₀ ≡ shown head t₀ (recordAfter s ds list₀) s
@@ -91,6 +94,7 @@ module _ (head : Head) (t₀ t list₀ : List ℕ) (ds : List Numbered) (s : Sta
 
   -- then the sources, where all are in
   module _ (strip : List ℕ) (ss : List Numbered) where
+    -- what source removal then reached, with the record written, is what the rules show of publish
     pub published-in :
         (list t′ : List ℕ) (r′ : Reached) (most′ : ℕ) → length t′ ≡ length t₀ → isAccepted (r .answer) ≡ true →
         list ≡ written (changeNumbers ds) list₀ →
@@ -107,6 +111,7 @@ module _ (head : Head) (t₀ t list₀ : List ℕ) (ds : List Numbered) (s : Sta
         ∙ ap (λ (l : List ℕ). shown head t₀ l (thenSources strip ss s))
         (w ∙ ap (λ (b : Bool). cond b (written (changeNumbers ds) list₀) list₀) (sym (said true e))))
 
+    -- where not all are in, what prepare reached, with the record list as it was, is what the rules show of publish
     pub published-not :
         length t ≡ length t₀ → isAccepted (r .answer) ≡ false →
         outcomeOf (doneOf head r) t list₀ ≡ shown head t₀ (recordAfter s ds list₀) (thenSources strip ss s)
