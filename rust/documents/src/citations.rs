@@ -64,8 +64,8 @@ fn of_line(line: usize, text: &str) -> Vec<Citation> {
                 citations.push(Citation { line, names, place });
             }
         }
-        // One word is enough for several places: edit `a` (sorting), `b` (bitmaps).
-        if !words.ends_with("), ") {
+        // One word is enough for several places: edit `a` (sorting), `b` (bitmaps) and `c` (masks).
+        if !words.ends_with("), ") && !words.ends_with(") and ") {
             let last_word = words.trim_end().rsplit([' ', '(']).next();
             word_before = last_word.unwrap_or_default();
         }

@@ -101,16 +101,26 @@ impl Repository {
 
     /// The fields of a record; of a theorem those of the records that its claim names.
     fn fields_of(&self, declaration: &Declaration) -> Vec<Declaration> {
+        if declaration.is_record() {
+            return declaration.own_fields();
+        }
         let is_between_words = |c: char| c.is_whitespace() || "(){}".contains(c);
         let words: Vec<&str> = declaration.text.split(is_between_words).collect();
-        let mut fields = Vec::new();
-        for record in &self.declarations {
-            if words.contains(&record.name.as_str()) {
-                let (_, inside) = record.text.split_once('\n').unwrap_or_default();
-                fields.extend(declarations_of(inside));
-            }
-        }
-        fields
+        let records = self.declarations.iter().filter(|one| one.is_record());
+        let named = records.filter(|record| words.contains(&record.name.as_str()));
+        named.flat_map(Declaration::own_fields).collect()
+    }
+}
+
+impl Declaration {
+    fn is_record(&self) -> bool {
+        let line = self.text.trim_start();
+        line.trim_start_matches("pub ").starts_with("record ")
+    }
+
+    fn own_fields(&self) -> Vec<Declaration> {
+        let (_, inside) = self.text.split_once('\n').unwrap_or_default();
+        declarations_of(inside)
     }
 }
 
@@ -132,11 +142,16 @@ fn not_in_each(
     missing
 }
 
-/// The declarations of a text. What stands inside one of them, as a record's fields, is none.
+/// The declarations of a text. What stands inside one of them, as a record's fields, is none, and
+/// neither is what helps a proof, below a line that is only `where`.
 fn declarations_of(text: &str) -> Vec<Declaration> {
     let mut declarations = Vec::new();
     let mut lines = text.lines().peekable();
     while let Some(line) = lines.next() {
+        if line.trim() == "where" {
+            let is_inside = |next: &&str| next.is_empty() || indent_of(next) > indent_of(line);
+            while lines.next_if(is_inside).is_some() {}
+        }
         if let Some(name) = declared_name(line) {
             let (name, mut text) = (name.to_string(), line.to_string());
             while let Some(inside) = lines.next_if(|next| indent_of(next) > indent_of(line)) {

@@ -63,6 +63,7 @@ const RIGHT: &str = "\
 3 `View` (lane_rules, src), `MOST_INPUT` (buckets, src), `asdrifen_count` (exports, src)
 1 edit `always-25` (lane_rules, passes)
 2 (edits `always-25`, `rounds-made-up` (passes))
+2 edit `always-25` (passes) and `count-named` (buckets)
 3 edit `count-named` (buckets), `any-bad-element` (bucket_laws), `range` (bucket_rules, Examples)
 2 test `small_views`, `edge_views` (comparison)
 0 the promise of that name (exports, Promises)
@@ -90,13 +91,14 @@ fn reported(lines: &str) {
 
 #[test]
 fn a_wrong_name_is_reported() {
-    // The last one is a field, and so no declaration.
+    // The last two are a field and a helper of a proof, and so no declarations.
     reported(
         "\
 `guard-named` (laws, Names) => no guard-named in (laws, Names)
 `guarded`, `guard-names` (laws, Names) => no guarded in (laws, Names)
 `check_guard` (checks, src) => no check_guard in (checks, src)
-`nearest` (laws, Names) => no nearest in (laws, Names)",
+`nearest` (laws, Names) => no nearest in (laws, Names)
+`go` (laws, Names) => no go in (laws, Names)",
     );
 }
 
@@ -135,10 +137,12 @@ test `small_views` (model) => no test small_views in model",
 
 #[test]
 fn a_missing_field_is_reported() {
-    // The second is a clause of rollback, and not of prepare.
+    // The second is a field of `Outcome`, which `UndoLeaves` names. The third is a clause of
+    // rollback, and not of prepare.
     reported(
         "\
 `FirstPair` .order, .pair (laws, Names) => no .pair of FirstPair
+`UndoLeaves` .recordList (history, Failures) => no .recordList of UndoLeaves
 `prepare-clauses` .requiresIndices (history, Upstream) => no .requiresIndices of prepare-clauses
 `refreshed-clauses` .pass .yesSame (lane_laws, Upstream) => no .pass .yesSame of refreshed-clauses",
     );

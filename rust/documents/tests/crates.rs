@@ -1,11 +1,11 @@
 //! What README says of the crates is so.
 
-use std::collections::{BTreeMap, BTreeSet};
+use std::collections::BTreeSet;
 
 use documents::repository::Repository;
 
-/// The crates for callers, and how many functions each gives, as docs/EXCEPTIONS.md lists them;
-/// `lanes` and `buckets` have `tell` besides.
+/// The crates for callers, and how many public functions each has. docs/EXCEPTIONS.md lists them,
+/// and below its table `tell` and `publish_guarded`, which are counted too.
 const DELIVERED: [(&str, usize); 5] = [
     ("publish", 6),
     ("entry", 3),
@@ -14,8 +14,8 @@ const DELIVERED: [(&str, usize); 5] = [
     ("exports", 14),
 ];
 
-/// Of `booleans` README speaks below its table; the other two are the toolchain's.
-const NOT_IN_THE_COLUMN: [&str; 3] = ["booleans", "io", "libc"];
+/// Of `booleans` README speaks below its table; `io` is the toolchain's.
+const NOT_IN_THE_COLUMN: [&str; 2] = ["booleans", "io"];
 
 /// Of each public function what stands before its body.
 fn public_signatures(code: &str) -> Vec<String> {
@@ -36,7 +36,7 @@ fn no_delivered_call_asks_anything() {
     for (of_crate, functions) in DELIVERED {
         let code = repository.text(&format!("crates/{of_crate}/src/lib.rt"));
         let signatures = public_signatures(&code);
-        assert!(signatures.len() >= functions, "{of_crate} gives too few");
+        assert_eq!(signatures.len(), functions, "functions of {of_crate}");
         for signature in signatures {
             assert!(!signature.contains("requires"), "{of_crate}: {signature}");
         }
@@ -51,22 +51,20 @@ fn a_requires_is_seen() {
     assert!(signatures[0].contains("requires") && !signatures[1].contains("requires"));
 }
 
-/// Crates, and what each rests on.
-type Crates<'a> = BTreeMap<&'a str, BTreeSet<&'a str>>;
+/// Crates, in order, and what each rests on.
+type Crates<'a> = Vec<(&'a str, BTreeSet<&'a str>)>;
 
 /// What crates.txt says.
 fn listed(crates_txt: &str) -> Crates<'_> {
     let mut crates = Crates::new();
     for line in crates_txt.lines() {
         let (name, rests_on) = line.split_once(':').expect("a colon follows a crate");
-        let rests_on = rests_on.split_whitespace();
-        let in_column = rests_on.filter(|one| !NOT_IN_THE_COLUMN.contains(one));
-        crates.insert(name, in_column.collect());
+        crates.push((name, rests_on.split_whitespace().collect()));
     }
     crates
 }
 
-/// What README's table says.
+/// What README's table says, row by row.
 fn rows(readme: &str) -> Crates<'_> {
     let mut crates = Crates::new();
     let from_table = readme
@@ -75,7 +73,7 @@ fn rows(readme: &str) -> Crates<'_> {
     for row in from_table.skip(2).take_while(|line| line.starts_with('|')) {
         let columns: Vec<&str> = row.split('|').collect();
         let name = in_backticks(columns[1]).next().expect("a row has a crate");
-        crates.insert(name, in_backticks(columns[3]).collect());
+        crates.push((name, in_backticks(columns[3]).collect()));
     }
     crates
 }
@@ -88,10 +86,28 @@ fn in_backticks(text: &str) -> impl Iterator<Item = &str> {
 fn the_table_of_crates_is_crates_txt() {
     let repository = Repository::here();
     let (crates_txt, readme) = (repository.text("crates.txt"), repository.text("README.md"));
-    let (listed, rows) = (listed(&crates_txt), rows(&readme));
+    let (mut listed, mut rows) = (listed(&crates_txt), rows(&readme));
     assert!(!listed.is_empty());
-    for (name, rests_on) in &listed {
-        assert_eq!(rows.get(name), Some(rests_on), "{name}");
+    for (_, rests_on) in &mut listed {
+        rests_on.retain(|one| !NOT_IN_THE_COLUMN.contains(one));
     }
-    assert_eq!(rows.len(), listed.len(), "a row is of no crate");
+    listed.sort();
+    rows.sort();
+    for (of_list, of_table) in listed.iter().zip(&rows) {
+        assert_eq!(of_list, of_table);
+    }
+    assert_eq!(rows.len(), listed.len(), "not as many rows as crates");
+}
+
+#[test]
+fn each_crate_rests_on_crates_further_down() {
+    let repository = Repository::here();
+    let (crates_txt, readme) = (repository.text("crates.txt"), repository.text("README.md"));
+    let rows = rows(&readme);
+    let row_of = |name| rows.iter().position(|(of_row, _)| *of_row == name);
+    for (name, rests_on) in listed(&crates_txt) {
+        for lower in rests_on.into_iter().filter(|one| *one != "io") {
+            assert!(row_of(name) < row_of(lower), "{lower} is not below {name}");
+        }
+    }
 }

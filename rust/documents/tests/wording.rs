@@ -9,9 +9,16 @@ const WORDS: [&str; 4] = ["issue", "issues", "session", "sessions"];
 fn unwanted(line: &str) -> Vec<&'static str> {
     let line = line.to_lowercase();
     let words: Vec<&str> = line.split(|c: char| !c.is_alphanumeric()).collect();
-    let phrases = PHRASES.into_iter().filter(|phrase| line.contains(phrase));
+    let phrases = PHRASES.into_iter().filter(|phrase| has(&line, phrase));
     let whole_words = WORDS.into_iter().filter(|word| words.contains(word));
     phrases.chain(whole_words).collect()
+}
+
+/// Whether a line has a phrase that does not go on from what stands before it, as in `crates/work`
+/// and `../work`.
+fn has(line: &str, phrase: &str) -> bool {
+    let mut before = line.match_indices(phrase).map(|(at, _)| &line[..at]);
+    before.any(|before| !before.ends_with(|c: char| c.is_alphanumeric() || c == '.'))
 }
 
 #[test]
@@ -28,5 +35,6 @@ fn documents_name_no_machine_and_no_way_of_working() {
 #[test]
 fn unwanted_words_are_seen() {
     assert_eq!(unwanted("An Issue, in /home/me."), ["/home", "issue"]);
-    assert!(unwanted("An order that was issued.").is_empty());
+    assert_eq!(unwanted("From crates/work to /work."), ["/work"]);
+    assert!(unwanted("An order that was issued, in crates/work or ../work.").is_empty());
 }
