@@ -148,7 +148,7 @@ said-set (c ∷ cs) ps p =
 abbrev withStrip : Call → List ℕ → Call
 withStrip c strip = record { changeList = c .changeList; guardList = c .guardList; strip = strip; recordList = c .recordList }
 
--- with any proper strip of which every byte that is read is 0 an accepted call is accepted just so
+-- a proper strip passes its check
 strip-passes : (c : Call) (strip : List ℕ) → properStrip strip ≡ true → stripCheck (withStrip c strip) ≡ Verdict.Passes
 unfolding stripCheck
 strip-passes c strip h = rw h
