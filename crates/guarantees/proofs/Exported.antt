@@ -32,7 +32,7 @@ use Rattle.buckets.specs.Promises as bucket
 use Rattle.exports.specs.declared.Done.{Done}
 use Rattle.exports.specs.declared.Detached.{Detached}
 use Rattle.exports.specs.Promises.{postingSeen, PreparePromise, RollbackPromise, RemovalPromise, PublishPromise, LentPublishPromise, HeldPromise, CountPromise, laneSeen, CachedPromise, RefreshedPromise, DetachPromise, BucketSeen, bucketSeen, threeNumbers, withOther, SortPromise, BitmapPromise, PrecedesPromise}
-use Rattle.guarantees.specs.Runs.{Made, Kept, Run, CallsRightOrWithheld}
+use Rattle.guarantees.specs.Runs.{Made, Run, CallsRightOrWithheld}
 use Rattle.guarantees.specs.Exported.{Behind, Crossed, RunAcross, AllInner}
 use Rattle.guarantees.proofs.History.{calls-right-or-withheld}
 
@@ -165,27 +165,12 @@ pub exported-precedes :
     Behind (λ (b : Bool). cond b 1 0) r (λ (b : Bool). bucket.PrecedesPromise stamp snapshot b)
 exported-precedes stamp snapshot r e = record { answer = precedes stamp snapshot; numbers = sym e; promise = refl }
 
--- what asdrifen_publish promises on return is what a run asks of each call
-pub exported-publish-kept :
-    (head : Head) (table changes : List ℕ) (guards : List Guard) (strip list : List ℕ) (r : Told) (head′ : Head) (t l : List ℕ) →
-    LentPublishPromise head table changes guards strip list r head′ t l →
-    Behind toldOf r
-    (λ (a : Answer).
-    Kept (record { head = head; table = table })
-    (record {
-      call = lending changes (flat guards) strip list;
-      result = record { head = head′; answer = a };
-      table = t;
-      recordList = l;
-    }))
-exported-publish-kept head table changes guards strip list r head′ t l e =
-    exported-publish head table changes guards strip list r head′ t l e
-
--- so calls of asdrifen_publish, one after the other, are a run of inner calls that were lent, told and left the same
+-- calls of asdrifen_publish, one after the other, are a run of inner calls that were lent, told and left the same: the promise of the
+-- lent form is what a run asks of each call
 pub exported-run : (x : Index) (ms : List Crossed) → RunAcross x ms → (ns : List Made) × Run x ns × AllInner ms ns
 exported-run x [] RunAcross.none = ([], Run.none, AllInner.none)
 exported-run x (m ∷ ms) (RunAcross.next k r) =
-    let b = exported-publish-kept (x .head) (x .table) (m .changes) (m .guards) (m .strip) (m .list) (m .told) (m .head) (m .table) (m .recordList) k in
+    let b = exported-publish (x .head) (x .table) (m .changes) (m .guards) (m .strip) (m .list) (m .told) (m .head) (m .table) (m .recordList) k in
     let e = exported-run (record { head = m .head; table = m .table }) ms r in
     let n : Made =
     record {

@@ -17,20 +17,20 @@ use Rattle.guarantees.proofs.Acceptance.{answer-of}
 
 module _ (head : Head) (table : List ℕ) (c : Call) (r : Done) (t l : List ℕ) where
   -- prepare, rollback, source removal, publish
-  pub prepare-among : PreparePromise head table c r t l → among (toldOf (r .answer) .answer) prepareNumbers ≡ true
-  prepare-among k = rw (answer-of r t l (prepareOf head table c) k) (law.prepare-among head table c)
+  pub prepare-numbers : PreparePromise head table c r t l → among (toldOf (r .answer) .answer) prepareNumbers ≡ true
+  prepare-numbers k = rw (answer-of r t l (prepareOf head table c) k) (law.prepare-numbers head table c)
 
-  pub rollback-among : RollbackPromise head table c r t l → among (toldOf (r .answer) .answer) rollbackNumbers ≡ true
-  rollback-among k = rw (answer-of r t l (rollbackOf head table c) k) (law.rollback-among head table c)
+  pub rollback-numbers : RollbackPromise head table c r t l → among (toldOf (r .answer) .answer) rollbackNumbers ≡ true
+  rollback-numbers k = rw (answer-of r t l (rollbackOf head table c) k) (law.rollback-numbers head table c)
 
-  pub removal-among : RemovalPromise head table c r t l → among (toldOf (r .answer) .answer) removalNumbers ≡ true
-  removal-among k = rw (answer-of r t l (removalOf head table c) k) (law.removal-among head table c)
+  pub removal-numbers : RemovalPromise head table c r t l → among (toldOf (r .answer) .answer) removalNumbers ≡ true
+  removal-numbers k = rw (answer-of r t l (removalOf head table c) k) (law.removal-numbers head table c)
 
-  pub publish-among : PublishPromise head table c r t l → among (toldOf (r .answer) .answer) publishNumbers ≡ true
-  publish-among k = rw (answer-of r t l (publishOf head table c) k) (law.publish-among head table c)
+  pub publish-numbers : PublishPromise head table c r t l → among (toldOf (r .answer) .answer) publishNumbers ≡ true
+  publish-numbers k = rw (answer-of r t l (publishOf head table c) k) (law.publish-numbers head table c)
 
 -- count
-pub count-among :
+pub count-numbers :
     (head : Head) (table : List ℕ) (binding key : ℕ) (a : Answer) → CountPromise head table binding key a →
     among (toldOf a .answer) countNumbers ≡ true
-count-among head table binding key a k = rw k (law.count-among head table binding key)
+count-numbers head table binding key a k = rw k (law.count-numbers head table binding key)

@@ -110,9 +110,9 @@ module _ (head : Head) (table : List ℕ) (c : Call) where
       (says-inserting prepareNumbers head table c _ refl refl refl refl (says-none prepareNumbers))
 
   -- prepare answers with no number but 0 to 8, 10, 11 and 12
-  pub prepare-among : among (toldOf (prepareOf head table c .answer) .answer) prepareNumbers ≡ true
+  pub prepare-numbers : among (toldOf (prepareOf head table c .answer) .answer) prepareNumbers ≡ true
   unfolding among
-  prepare-among = answered-among prepareNumbers (prepareChecks head table c) _ prepare-says ends _ (prepare-answered head table c)
+  prepare-numbers = answered-among prepareNumbers (prepareChecks head table c) _ prepare-says ends _ (prepare-answered head table c)
     where
       ends :
           (a : Answer) → Ends (capacity table) (head .used) (c .strip) (destinations (changesOf c)) [] a →
@@ -132,9 +132,9 @@ module _ (head : Head) (table : List ℕ) (c : Call) where
       (says-cons rollbackNumbers _ _ (says-14 rollbackNumbers head table c refl) (says-none rollbackNumbers)))
 
   -- rollback answers with no number but 0 to 4, 6, 12 and 14
-  pub rollback-among : among (toldOf (rollbackOf head table c .answer) .answer) rollbackNumbers ≡ true
+  pub rollback-numbers : among (toldOf (rollbackOf head table c .answer) .answer) rollbackNumbers ≡ true
   unfolding among
-  rollback-among = answered-among rollbackNumbers (rollbackChecks head table c) _ rollback-says ends _ (rollback-answered head table c)
+  rollback-numbers = answered-among rollbackNumbers (rollbackChecks head table c) _ rollback-says ends _ (rollback-answered head table c)
     where
       ends : (a : Answer) → RollbackEnds (c .strip) (recordedBack c) a → among (toldOf a .answer) rollbackNumbers ≡ true
       ends a (RollbackEnds.accepted q) = refl
@@ -148,9 +148,9 @@ module _ (head : Head) (table : List ℕ) (c : Call) where
       (says-cons removalNumbers _ _ (says-6 removalNumbers head table c refl) (says-none removalNumbers))
 
   -- source removal answers with no number but 0 to 4, 6 and 13
-  pub removal-among : among (toldOf (removalOf head table c .answer) .answer) removalNumbers ≡ true
+  pub removal-numbers : among (toldOf (removalOf head table c .answer) .answer) removalNumbers ≡ true
   unfolding among
-  removal-among = answered-among removalNumbers (removalChecks head table c) _ removal-says ends _ (removal-answered head table c)
+  removal-numbers = answered-among removalNumbers (removalChecks head table c) _ removal-says ends _ (removal-answered head table c)
     where
       ends : (a : Answer) → RemovalEnds (c .strip) (sources (changesOf c)) a → among (toldOf a .answer) removalNumbers ≡ true
       ends a (RemovalEnds.accepted q) = refl
@@ -165,9 +165,9 @@ module _ (head : Head) (table : List ℕ) (c : Call) where
       (says-cons publishNumbers _ _ (says-9 publishNumbers head table c refl) (says-none publishNumbers)))
 
   -- publish answers with no number but 0 to 13
-  pub publish-among : among (toldOf (publishOf head table c .answer) .answer) publishNumbers ≡ true
+  pub publish-numbers : among (toldOf (publishOf head table c .answer) .answer) publishNumbers ≡ true
   unfolding among
-  publish-among = answered-among publishNumbers (publishChecks head table c) _ publish-says ends _ (publish-answered head table c)
+  publish-numbers = answered-among publishNumbers (publishChecks head table c) _ publish-says ends _ (publish-answered head table c)
     where
       ends :
           (a : Answer) → Ends (capacity table) (head .used) (c .strip) (destinations (changesOf c)) (sources (changesOf c)) a →
@@ -187,9 +187,9 @@ count-says head table binding =
     (says-cons countNumbers _ _ (says-must countNumbers (ltb binding (head .bindings)) (Answer.Guard 0) refl) (says-none countNumbers)))
 
 -- count answers with no number but 0, 1, 2 and 6
-pub count-among :
+pub count-numbers :
     (head : Head) (table : List ℕ) (binding key : ℕ) → among (toldOf (countOf head table binding key) .answer) countNumbers ≡ true
 unfolding among
-count-among head table binding key =
+count-numbers head table binding key =
     answered-among countNumbers (countChecks head table binding) _ (count-says head table binding) (λ a e. rw e) _
     (count-answered head table binding key)

@@ -1,8 +1,9 @@
 -- Which numbers each call answers with, whatever comes in.
 use Prim.Native.Nat.{ℕ}
-use native.Mathlib.Omega.{arith}
-use mathlib.Core.Path.{refl}
+use mathlib.Core.Path.{_≡_, refl}
 use mathlib.Core.List.{List}
+use mathlib.Core.Bool.{true}
+use Rattle.lent_lists.specs.Among.{among}
 use Rattle.lane_rules.specs.declared.View.{View}
 use Rattle.lane_rules.specs.declared.Pass.{Pass}
 use Rattle.lane_rules.specs.declared.Answer.{Answer}
@@ -12,7 +13,7 @@ use Rattle.lane_rules.specs.Answers.{toldOf}
 use Rattle.lane_rules.specs.Calls.{entryChecks, refreshedChecks, unlessRefused, passed, cachedOf, refreshedOf, detachOf}
 use Rattle.lane_laws.specs.Clauses.{Valid, Entry, DetachEntry, RefreshedEntry}
 use Rattle.lane_laws.specs.Ends.{cachedWork, refreshedWork, Ends, yes, error, spent}
-use Rattle.lane_laws.specs.Ends.{OneOf, cachedNumbers, refreshedNumbers, detachNumbers}
+use Rattle.lane_laws.specs.Ends.{cachedNumbers, refreshedNumbers, detachNumbers}
 use Rattle.lane_laws.proofs.Cases.{by-said}
 use Rattle.lane_laws.proofs.Entry.{detach-entry, refreshed-entry}
 use Rattle.lane_laws.proofs.Exactly.{detaching-ends}
@@ -60,28 +61,29 @@ ends-number P (yes n k e c) zero offset budget = zero
 ends-number P (error n k f) zero offset budget = offset
 ends-number P (spent c) zero offset budget = budget
 
+-- the number is among these
+abbrev In : List ℕ → ℕ → Type 0
+In numbers n = among n numbers ≡ true
+
 module _ (v : View) (strip : List ℕ) where
   -- a cached pass answers with 0, 20, 21, 23 or 24
-  pub cached-numbers : OneOf cachedNumbers (toldOf (cachedOf v strip .answer) .answer)
-  unfolding cachedOf
+  pub cached-numbers : among (toldOf (cachedOf v strip .answer) .answer) cachedNumbers ≡ true
+  unfolding cachedOf among
   cached-numbers =
-      let P = OneOf cachedNumbers in
-      detach-number v strip P _ (1, omega arith, refl) (2, omega arith, refl) (3, omega arith, refl)
-      (λ r. pass-number P v (cachedWork v strip) (0, omega arith, refl) (4, omega arith, refl))
+      detach-number v strip (In cachedNumbers) _ refl refl refl
+      (λ r. pass-number (In cachedNumbers) v (cachedWork v strip) refl refl)
 
   -- a refreshed pass with 0 or 20 to 24
-  pub refreshed-numbers : OneOf refreshedNumbers (toldOf (refreshedOf v strip .answer) .answer)
-  unfolding refreshedOf
+  pub refreshed-numbers : among (toldOf (refreshedOf v strip .answer) .answer) refreshedNumbers ≡ true
+  unfolding refreshedOf among
   refreshed-numbers =
-      let P = OneOf refreshedNumbers in
-      refreshed-number v strip P _ (1, omega arith, refl) (2, omega arith, refl) (3, omega arith, refl) (4, omega arith, refl)
-      (pass-number P v (refreshedWork v strip) (0, omega arith, refl) (5, omega arith, refl))
+      refreshed-number v strip (In refreshedNumbers) _ refl refl refl refl
+      (pass-number (In refreshedNumbers) v (refreshedWork v strip) refl refl)
 
   -- a detach with 0, 20, 21, 23, 24 or 25
-  pub detach-numbers : (lent : ℕ) → OneOf detachNumbers (toldOf (detachOf v strip lent .answer) .answer)
-  unfolding detachOf
+  pub detach-numbers : (lent : ℕ) → among (toldOf (detachOf v strip lent .answer) .answer) detachNumbers ≡ true
+  unfolding detachOf among
   detach-numbers lent =
-      let P = OneOf detachNumbers in
-      detach-number v strip P _ (1, omega arith, refl) (2, omega arith, refl) (3, omega arith, refl)
-      (λ r. ends-number P (detaching-ends strip (v .height) lent (v .attached) (v .window) (r .below)) (0, omega arith, refl)
-      (4, omega arith, refl) (5, omega arith, refl))
+      detach-number v strip (In detachNumbers) _ refl refl refl
+      (λ r.
+      ends-number (In detachNumbers) (detaching-ends strip (v .height) lent (v .attached) (v .window) (r .below)) refl refl refl)

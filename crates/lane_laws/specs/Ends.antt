@@ -4,7 +4,7 @@ use mathlib.Core.Path.{_≡_}
 use mathlib.Core.List.{List, [], _∷_}
 use mathlib.Core.Bool.{true, false, cond}
 use mathlib.Core.Logic.{_⊎_}
-use lib.ListN.{length, getD}
+use lib.ListN.{length}
 use Rattle.strips.specs.Strips.{byteAt}
 use Rattle.masks.specs.Masks.{laneIn}
 use Rattle.lane_rules.specs.declared.View.{View}
@@ -129,10 +129,6 @@ pub record Retired (o : Done) : Type 0 where
 -- the rounds that a detach makes where enough are lent
 abbrev pub roundsNeeded : View → List ℕ → ℕ
 roundsNeeded v strip = toldOf (detachOf v strip (length strip / 2 + 2) .answer) .value
-
--- one of these numbers
-abbrev pub OneOf : List ℕ → ℕ → Type 0
-OneOf numbers n = (i : ℕ) × (i < length numbers) × (getD numbers i 0 ≡ n)
 
 -- the numbers that a cached pass answers with
 abbrev pub cachedNumbers : List ℕ

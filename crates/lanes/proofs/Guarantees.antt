@@ -7,6 +7,7 @@ use mathlib.Core.Bool.{true}
 use mathlib.Core.Logic.{_↔_}
 use lib.ListN.{length}
 use Rattle.strips.specs.Strips.{mostBytes, byteAt}
+use Rattle.lent_lists.specs.Among.{among}
 use Rattle.lane_rules.specs.declared.View.{View}
 use Rattle.lane_rules.specs.declared.Answer.{Answer}
 use Rattle.lane_rules.specs.declared.Verdict.{Verdict}
@@ -15,7 +16,7 @@ use Rattle.lane_rules.specs.Answers.{toldOf, isAccepted}
 use Rattle.lane_rules.specs.Calls.{entryChecks, refreshedChecks, cachedOf, refreshedOf, detachOf}
 use Rattle.lane_laws.specs.Clauses.{NoneBelow, PassClauses, RefreshedClauses, DetachClauses}
 use Rattle.lane_laws.specs.Ends.{detachWork, NoErrors, Clean, AllCleared, SomeNo, SomeError, lanesTried, MetNoError, HadRounds}
-use Rattle.lane_laws.specs.Ends.{Retired, roundsNeeded, OneOf, cachedNumbers, refreshedNumbers, detachNumbers}
+use Rattle.lane_laws.specs.Ends.{Retired, roundsNeeded, cachedNumbers, refreshedNumbers, detachNumbers}
 use Rattle.lane_laws.specs.Places.{CachedAnswers, RefreshedAnswers, DetachAnswers}
 use Rattle.lane_laws.specs.Windows.{withWindow, AlikeBelow, SameButWindow, SetsWindow}
 use Rattle.lane_laws.proofs.Exactly as exactly
@@ -44,9 +45,9 @@ module _ (v : View) (strip : List ℕ) (r : Done) (p : CachedPromise v strip r) 
   cached-exactly a = cached-so (λ (o : Done). (o .answer ≡ a) ↔ CachedAnswers v strip a) (places.cached-exactly v strip a)
 
   -- it answers with 0, 20, 21, 23 or 24
-  pub cached-numbers : OneOf cachedNumbers (toldOf (r .answer) .answer)
+  pub cached-numbers : among (toldOf (r .answer) .answer) cachedNumbers ≡ true
   cached-numbers =
-      cached-so (λ (o : Done). OneOf cachedNumbers (toldOf (o .answer) .answer)) (numbers.cached-numbers v strip)
+      cached-so (λ (o : Done). among (toldOf (o .answer) .answer) cachedNumbers ≡ true) (numbers.cached-numbers v strip)
 
   -- it tells 1 exactly where every lane is in the window and attached, and every byte that it reads is 0
   pub cached-yes-exactly :
@@ -87,9 +88,9 @@ module _ (v : View) (strip : List ℕ) (r : Done) (p : RefreshedPromise v strip 
       refreshed-so (λ (o : Done). (o .answer ≡ a) ↔ RefreshedAnswers v strip a) (places.refreshed-exactly v strip a)
 
   -- it answers with 0 or 20 to 24
-  pub refreshed-numbers : OneOf refreshedNumbers (toldOf (r .answer) .answer)
+  pub refreshed-numbers : among (toldOf (r .answer) .answer) refreshedNumbers ≡ true
   refreshed-numbers =
-      refreshed-so (λ (o : Done). OneOf refreshedNumbers (toldOf (o .answer) .answer)) (numbers.refreshed-numbers v strip)
+      refreshed-so (λ (o : Done). among (toldOf (o .answer) .answer) refreshedNumbers ≡ true) (numbers.refreshed-numbers v strip)
 
   -- it tells 1 exactly where no lane below the height is in the window
   pub refreshed-yes-exactly :
@@ -168,8 +169,8 @@ module _ (v : View) (strip : List ℕ) (lent : ℕ) (r : Done) (p : DetachPromis
   detach-exactly a = so (λ (o : Done). (o .answer ≡ a) ↔ DetachAnswers v strip lent a) (places.detach-exactly v strip lent a)
 
   -- it answers with 0, 20, 21, 23, 24 or 25
-  pub detach-numbers : OneOf detachNumbers (toldOf (r .answer) .answer)
-  detach-numbers = so (λ (o : Done). OneOf detachNumbers (toldOf (o .answer) .answer)) (numbers.detach-numbers v strip lent)
+  pub detach-numbers : among (toldOf (r .answer) .answer) detachNumbers ≡ true
+  detach-numbers = so (λ (o : Done). among (toldOf (o .answer) .answer) detachNumbers ≡ true) (numbers.detach-numbers v strip lent)
 
   -- 24 exactly where an error byte was read
   pub offset-exactly :
