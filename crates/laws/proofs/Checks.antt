@@ -470,3 +470,7 @@ module _ (head : Head) (table : List ℕ) (c : Call) where
 
   pub removal-formed : removalChecks head table c ≡ Verdict.Passes → (wellFormed head table ≡ true) × (head .poisoned ≡ 0)
   removal-formed h = opened head table (removal-passed head table c h .0)
+
+pub count-formed : (head : Head) (table : List ℕ) (binding : ℕ) → countChecks head table binding ≡ Verdict.Passes → wellFormed head table ≡ true
+unfolding countChecks
+count-formed head table binding h = opened head table (passed _ h .0) .0

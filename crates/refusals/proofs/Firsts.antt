@@ -8,13 +8,15 @@ use lib.ListN.{length, getD}
 use lib.Dec.{ltb}
 use Rattle.rules.specs.declared.Answer.{Answer}
 use Rattle.rules.specs.declared.Change.{Change}
+use Rattle.rules.specs.declared.Head.{Head}
 use Rattle.rules.specs.declared.Verdict.{Verdict}
 use Rattle.rules.specs.Limits.{mostChanges}
 use Rattle.rules.specs.Postings.{every}
-use Rattle.rules.specs.Orders.{changes, destinationOf, noChange}
-use Rattle.rules.specs.Checks.{must, orElse, firstRefusal, isNamed, recordable, recordFrom, recordCheck, lentChecks}
+use Rattle.rules.specs.Table.{wellFormed}
+use Rattle.rules.specs.Orders.{changes, destinationOf, noChange, Call, changesOf}
+use Rattle.rules.specs.Checks.{must, orElse, firstRefusal, isNamed, recordable, recordFrom, recordCheck, lentChecks, prepareChecks, rollbackChecks, removalChecks}
 use Rattle.lent_lists.specs.Among.{among}
-use Rattle.laws.proofs.Checks.{must-holds, else-first, else-second, lent-proper, proper-few}
+use Rattle.laws.proofs.Checks.{must-holds, else-first, else-second, opened, lent-proper, proper-few, room-places, prepare-passed, rollback-passed, removal-passed}
 
 -- a verdict that refused ends the checks
 pub ends : {v x : Verdict} {a : Answer} (vs : List Verdict) → x ≡ v → x ≡ Verdict.Refused a → x ≡ firstRefusal (v ∷ vs)
@@ -67,6 +69,27 @@ record-below place cs earlier (n ∷ ns) e =
     (and-elim-left (ltb n (length cs)) named (and-elim-left (ltb n (length cs) && named) (not (among n earlier)) h))
     (record-below (place + 1) cs (n ∷ earlier) ns (else-second (must test (Answer.Record place)) _ e))
 
-pub recorded-below : (cs : List Change) (list : List ℕ) → recordCheck cs list ≡ Verdict.Passes → every (λ n. ltb n (length cs)) list ≡ true
+recorded-below : (cs : List Change) (list : List ℕ) → recordCheck cs list ≡ Verdict.Passes → every (λ n. ltb n (length cs)) list ≡ true
 unfolding recordCheck
 recorded-below cs list h = record-below 0 cs [] list h
+
+-- what the work of each call asks for, where its checks passed
+module _ (head : Head) (table : List ℕ) (c : Call) where
+  pub prepare-ready :
+      prepareChecks head table c ≡ Verdict.Passes →
+      (wellFormed head table ≡ true) × ((length (changesOf c) ≤ mostChanges) × (length (changesOf c) ≤ length (c .recordList)))
+  prepare-ready h =
+      let p = prepare-passed head table c h in
+      (opened head table (p .opening) .0, (lent-few _ _ _ (p .lent), room-places _ _ (p .room)))
+
+  pub rollback-ready :
+      rollbackChecks head table c ≡ Verdict.Passes →
+      (wellFormed head table ≡ true) × ((length (changesOf c) ≤ mostChanges) × (every (λ n. ltb n (length (changesOf c))) (c .recordList) ≡ true))
+  rollback-ready h =
+      let p = rollback-passed head table c h in
+      (opened head table (p .0) .0, (lent-few _ _ _ (p .1), recorded-below _ _ (p .3)))
+
+  pub removal-ready : removalChecks head table c ≡ Verdict.Passes → (wellFormed head table ≡ true) × (length (changesOf c) ≤ mostChanges)
+  removal-ready h =
+      let p = removal-passed head table c h in
+      (opened head table (p .0) .0, lent-few _ _ _ (p .1))
