@@ -45,16 +45,21 @@ module _ (head : Head) (table cs gs : List ℕ) (paired : Bool) (guarding earlie
   -- what was found of the guards is true of them, and 1 to 5 and then 6 were asked
   checks-same :
       earlier ≡ firstRefusal (orderChecks head table cs paired strip list ∷ guarding ∷ []) → paired ≡ properGuards gs →
-      (properLists cs paired ≡ true → guarding ≡ guardCheck (head .bindings) (guards gs) (changes cs)) →
+      (orderChecks head table cs paired strip list ≡ Verdict.Passes → guarding ≡ guardCheck (head .bindings) (guards gs) (changes cs)) →
       firstRefusal (earlier ∷ arrivingChecks (postings (head .used) table) (changes cs) ∷ leavingChecks (changes cs) ∷ []) ≡ publishChecks head table (lending cs gs strip list)
   unfolding publishChecks publishBeside
   checks-same e p f =
       joined (orderChecks head table cs paired strip list ∷ guarding ∷ []) _ e refl
-      ∙ (behind (orderChecks head table cs paired strip list) _ (λ h. f (order-proper head table cs paired strip list h)) ∙ rw p)
+      ∙ (behind (orderChecks head table cs paired strip list) _ f ∙ rw p)
 
   pub core-publishes :
       earlier ≡ firstRefusal (orderChecks head table cs paired strip list ∷ guarding ∷ []) → paired ≡ properGuards gs →
-      (properLists cs paired ≡ true → guarding ≡ guardCheck (head .bindings) (guards gs) (changes cs)) →
+      (orderChecks head table cs paired strip list ≡ Verdict.Passes → guarding ≡ guardCheck (head .bindings) (guards gs) (changes cs)) →
       coreOf head table cs earlier strip list ≡ publishOf head table (lending cs gs strip list)
   unfolding coreOf publishOf
   core-publishes e p f = rw (checks-same e p f)
+
+-- the core goes by the verdict that it is given
+pub core-after :
+    (head : Head) (table cs strip list : List ℕ) {v w : Verdict} → v ≡ w → coreOf head table cs v strip list ≡ coreOf head table cs w strip list
+core-after head table cs strip list e = ap (λ (v : Verdict). coreOf head table cs v strip list) e

@@ -1,6 +1,5 @@
-// What the entries decide, over plain values: which keys an order asks the guards for, whether a guard is the one asked for, and
-// the by-value call.
-use answers::sets_poison;
+// What the lent forms decide, over plain values: which keys an order asks the guards for, whether a guard is the one asked for, and
+// the by-value call. An inner layer, not delivered.
 use changes::change_at;
 use changes::count_of;
 use checks::MOST_CHANGES;
@@ -15,8 +14,8 @@ ghost use mathlib.Core.Bool.{_&&_};
 ghost use lib.ListN.{length};
 ghost use lib.Dec.{eqb};
 ghost use Rattle.rules.specs.Orders.{changes};
-ghost use Rattle.entry.specs.Asking.{wantedOf, wantedAt, keysAsked};
-ghost use Rattle.entry.specs.Promises.{ByValuePromise};
+ghost use Rattle.guarding.specs.Asking.{wantedOf, wantedAt, keysAsked};
+ghost use Rattle.guarding.specs.InPlace.{ByValuePromise};
 
 // A key that a change names, or none.
 pub struct Wanted {
@@ -25,7 +24,7 @@ pub struct Wanted {
     pub key: u32,
 }
 
-// What a publish answers, the head that it leaves, and whether that is poisoned by this call.
+// What a publish answers, the head that it leaves but for the poison flag, which is as it was lent, and whether that is to be set.
 pub struct Published {
     pub answer: Answer,
     pub head: Head,
@@ -42,10 +41,14 @@ pub fn is_guard(guard: Guard, binding: u32, key: u32) -> bool
     false
 }
 
-// How many keys are asked for: two of each change, and none beside lists that are over their limits, which 3 refuses.
-pub fn keys_asked(list: &[u32], guards: usize) -> usize
-    ensures { λ r. ⌜ r ≡ keysAsked guards (now (list .entry)) ⌝ }
+// How many keys are asked for: two of each change; and none where the poison flag is set, which 1 or 2 refuses, or beside lists
+// that are over their limits, which 3 refuses. So no guard is walked for these.
+pub fn keys_asked(poisoned: u32, list: &[u32], guards: usize) -> usize
+    ensures { λ r. ⌜ r ≡ keysAsked poisoned guards (now (list .entry)) ⌝ }
 {
+    if poisoned != 0 {
+        return 0;
+    }
     let n = count_of(list);
     if n <= MOST_CHANGES {
         if guards <= MOST_GUARDS {
@@ -101,12 +104,18 @@ pub fn publish_by_value(
         (now («record» .entry)) r (now (table .exit)) (now («record» .exit)) ⌝ }
 {
     let paired = guards <= MOST_GUARDS;
-    let done = publish::publish_guarded(head, table, list, paired, unheld / 2, strip, record);
+    let ordered = refusals::of_order(head, table, list, paired, strip, record);
+    let guarded = refusals::binding(ordered, head.bindings, list, unheld / 2);
+    let done = publish_core::publish(head, table, list, guarded, strip, record);
     let answer = done.answer;
     let after = done.head;
     Published {
         answer,
-        head: after,
-        poisons: sets_poison(answer),
+        head: Head {
+            bindings: after.bindings,
+            used: after.used,
+            poisoned: head.poisoned,
+        },
+        poisons: after.poisoned == 1,
     }
 }

@@ -1,7 +1,7 @@
 -- The binding, then the key.
 use borrow.Author.Tests.{eq-eqb, ne-eqb}
-use Rattle.entry.proofs.guarding.is_guard.Statement.{statement}
-use Rattle.entry.proofs.guarding.is_guard.Tie as tie
+use Rattle.guarding.proofs.is_guard.Statement.{statement}
+use Rattle.guarding.proofs.is_guard.Tie as tie
 
 returns : tie.Need-returns
 returns c = rw (eq-eqb _ _ (c .before .if1 .taken))

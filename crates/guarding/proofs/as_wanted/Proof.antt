@@ -1,7 +1,7 @@
 -- Each arm is a clause of the definition.
 use borrow.Author.Needs.{needs}
-use Rattle.entry.proofs.guarding.as_wanted.Statement.{statement}
-use Rattle.entry.proofs.guarding.as_wanted.Tie as tie
+use Rattle.guarding.proofs.as_wanted.Statement.{statement}
+use Rattle.guarding.proofs.as_wanted.Tie as tie
 
 enum-told : tie.Need-enum-told
 enum-told c = search needs

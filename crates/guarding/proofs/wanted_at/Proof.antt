@@ -1,8 +1,8 @@
 -- The change, then one of its keys.
 use borrow.Author.Tests.{eq-eqb, ne-eqb}
 use borrow.Author.Needs.{needs}
-use Rattle.entry.proofs.guarding.wanted_at.Statement.{statement}
-use Rattle.entry.proofs.guarding.wanted_at.Tie as tie
+use Rattle.guarding.proofs.wanted_at.Statement.{statement}
+use Rattle.guarding.proofs.wanted_at.Tie as tie
 
 change-at-requires : tie.Need-change-at-requires
 change-at-requires c κs = search needs

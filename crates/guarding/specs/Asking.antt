@@ -9,7 +9,7 @@ use Rattle.rules.specs.declared.Change.{Change}
 use Rattle.rules.specs.declared.Guard.{Guard}
 use Rattle.rules.specs.Limits.{mostChanges, mostGuards}
 use Rattle.rules.specs.Orders.{changes, held, noChange}
-use Rattle.entry.specs.declared.guarding.Wanted.{Wanted}
+use Rattle.guarding.specs.declared.Wanted.{Wanted}
 
 -- the flat numbers of guards, two to each: binding, key
 unfoldable pub flat : List Guard → List ℕ
@@ -31,10 +31,10 @@ wantedAt cs place =
 abbrev pub wantedHeld : List Guard → Wanted → Bool
 wantedHeld gs w = cond (w .named) (held (w .binding) (w .key) gs) true
 
--- two places for each change; none beside lists that are over their limits
-abbrev pub keysAsked : ℕ → List ℕ → ℕ
-keysAsked guards list =
-    cond (leb (length (changes list)) mostChanges && leb guards mostGuards) (length (changes list) * 2) 0
+-- two places for each change; none where the poison flag is set, or beside lists that are over their limits
+abbrev pub keysAsked : ℕ → ℕ → List ℕ → ℕ
+keysAsked poisoned guards list =
+    cond (eqb poisoned 0 && (leb (length (changes list)) mostChanges && leb guards mostGuards)) (length (changes list) * 2) 0
 
 -- the first place, of so many from this one on, whose key is not held; past the last where there is none
 unfoldable pub unheldFrom : List Guard → List Change → ℕ → ℕ → ℕ
@@ -42,6 +42,6 @@ unheldFrom gs cs place zero = place
 unheldFrom gs cs place (suc more) =
     cond (wantedHeld gs (wantedAt cs place)) (unheldFrom gs cs (suc place) more) place
 
--- the first place of an order whose key is not held
-abbrev pub unheldPlace : List Guard → List ℕ → ℕ
-unheldPlace gs list = unheldFrom gs (changes list) 0 (keysAsked (length gs) list)
+-- the first place of an order whose key is not held, of those that are asked for
+abbrev pub unheldPlace : ℕ → List Guard → List ℕ → ℕ
+unheldPlace poisoned gs list = unheldFrom gs (changes list) 0 (keysAsked poisoned (length gs) list)

@@ -7,7 +7,7 @@ use lib.ListN.{replicate}
 use Rattle.rules.specs.declared.Guard.{Guard}
 use Rattle.rules.specs.Orders.{held, properGuards}
 use Rattle.rules.specs.Trial.{computing}
-use Rattle.entry.specs.Asking.{flat, unheldFrom, unheldPlace}
+use Rattle.guarding.specs.Asking.{flat, unheldFrom, unheldPlace}
 
 -- a guard by its numbers
 abbrev pub guard : ℕ → ℕ → Guard
@@ -43,12 +43,13 @@ unfolding computing
 guards-held = refl
 
 -- row 1 of binding 0 goes from key 5 to key 6: place 0 asks for key 5, place 1 for key 6, and past them all is held; beside guards
--- over their limit nothing is asked
+-- over their limit nothing is asked, nor where the poison flag is set
 pub unheld-places :
-    unheldPlace [] (0 ∷ 1 ∷ 1 ∷ 5 ∷ 1 ∷ 6 ∷ []) ∷ unheldPlace (guard 0 5 ∷ []) (0 ∷ 1 ∷ 1 ∷ 5 ∷ 1 ∷ 6 ∷ [])
-    ∷ unheldPlace (guard 0 6 ∷ guard 0 5 ∷ []) (0 ∷ 1 ∷ 1 ∷ 5 ∷ 1 ∷ 6 ∷ [])
-    ∷ unheldPlace (replicate 1025 (guard 0 5)) (0 ∷ 1 ∷ 1 ∷ 5 ∷ 1 ∷ 6 ∷ [])
+    unheldPlace 0 [] (0 ∷ 1 ∷ 1 ∷ 5 ∷ 1 ∷ 6 ∷ []) ∷ unheldPlace 0 (guard 0 5 ∷ []) (0 ∷ 1 ∷ 1 ∷ 5 ∷ 1 ∷ 6 ∷ [])
+    ∷ unheldPlace 0 (guard 0 6 ∷ guard 0 5 ∷ []) (0 ∷ 1 ∷ 1 ∷ 5 ∷ 1 ∷ 6 ∷ [])
+    ∷ unheldPlace 0 (replicate 1025 (guard 0 5)) (0 ∷ 1 ∷ 1 ∷ 5 ∷ 1 ∷ 6 ∷ [])
+    ∷ unheldPlace 1 (guard 0 5 ∷ []) (0 ∷ 1 ∷ 1 ∷ 5 ∷ 1 ∷ 6 ∷ [])
     ∷ []
-    ≡ 0 ∷ 1 ∷ 2 ∷ 0 ∷ []
+    ≡ 0 ∷ 1 ∷ 2 ∷ 0 ∷ 0 ∷ []
 unfolding computing unheldFrom
 unheld-places = refl

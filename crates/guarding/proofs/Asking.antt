@@ -14,13 +14,17 @@ use borrow.Author.Tests.{eq-eqb, ne-eqb}
 use Rattle.rules.specs.declared.Key.{Key}
 use Rattle.rules.specs.declared.Change.{Change}
 use Rattle.rules.specs.declared.Guard.{Guard}
+use Rattle.rules.specs.declared.Head.{Head}
+use Rattle.rules.specs.declared.Verdict.{Verdict}
 use Rattle.rules.specs.Limits.{mostChanges, mostGuards}
 use Rattle.rules.specs.Orders.{changes, guards, properChanges, properGuards, properLists, held, noChange}
-use Rattle.rules.specs.Checks.{keyHeld}
-use Rattle.checks.specs.Guarding.{firstUnheld}
-use Rattle.refusals.specs.Lending.{LookedAt}
-use Rattle.entry.specs.declared.guarding.Wanted.{Wanted}
-use Rattle.entry.specs.Asking.{flat, wantedOf, wantedAt, wantedHeld, keysAsked, unheldFrom, unheldPlace}
+use Rattle.rules.specs.Checks.{keyHeld, guardCheck, orderChecks}
+use Rattle.checks.specs.Guarding.{firstUnheld, bindingsFrom}
+use Rattle.checks.proofs.Guarding.{unheld-known}
+use Rattle.laws.proofs.Checks.{opened, order-passed}
+use Rattle.publish_core.proofs.Publishing.{order-proper}
+use Rattle.guarding.specs.declared.Wanted.{Wanted}
+use Rattle.guarding.specs.Asking.{flat, wantedOf, wantedAt, wantedHeld, keysAsked, unheldFrom, unheldPlace}
 
 -- the flat numbers mean the guards
 pub flat-guards : (gs : List Guard) → guards (flat gs) ≡ gs
@@ -33,7 +37,7 @@ unfolding flat
 flat-even [] = refl
 flat-even (g ∷ gs) = let ih = flat-even gs in omega arith
 
-pairs-known : (gs : List Guard) → leb (length gs) mostGuards ≡ properGuards (flat gs)
+pub pairs-known : (gs : List Guard) → leb (length gs) mostGuards ≡ properGuards (flat gs)
 unfolding properGuards
 pairs-known gs = rw (eq-eqb (length (flat gs) % 2) 0 (flat-even gs), flat-guards gs)
 
@@ -107,8 +111,8 @@ module _ (gs : List Guard) (cs : List Change) (place n : ℕ) where
       none = omega arith
 
 -- keys that are asked for are keys of the order
-pub asked-within : (n : ℕ) (list : List ℕ) (place : ℕ) → place < keysAsked n list → place < length (changes list) * 2
-asked-within n list place l = go (leb (length (changes list)) mostChanges && leb n mostGuards) l
+pub asked-within : (poisoned n : ℕ) (list : List ℕ) (place : ℕ) → place < keysAsked poisoned n list → place < length (changes list) * 2
+asked-within poisoned n list place l = go (eqb poisoned 0 && (leb (length (changes list)) mostChanges && leb n mostGuards)) l
   where
     go : (b : Bool) → place < cond b (length (changes list) * 2) 0 → place < length (changes list) * 2
     go true h = h
@@ -159,17 +163,18 @@ unheld-change gs cs (suc m) i e =
     go true false h = omega arith
     go false a h = omega arith
 
--- what the entry says of the guards is true of their flat numbers
-pub looked :
-    (gs : List Guard) (list : List ℕ) →
-    LookedAt list (flat gs) (leb (length gs) mostGuards) (unheldPlace gs list / 2)
-unfolding properLists
-looked gs list =
-    record {
-      pairs = pairs-known gs;
-      change = λ p.
-          let few = and-elim-right (properChanges list) (leb (length (changes list)) mostChanges) (and-elim-left (properChanges list && leb (length (changes list)) mostChanges) (properGuards (flat gs)) p) in
-          let paired = pairs-known gs ∙ and-elim-right (properChanges list && leb (length (changes list)) mostChanges) (properGuards (flat gs)) p in
-          rw (and-intro few paired, flat-guards gs)
-          (unheld-change gs (changes list) (length (changes list)) 0 (omega arith));
-    }
+-- where 1 to 5 pass, what was found of the guards is what 6 finds by their flat numbers
+pub guards-found :
+    (head : Head) (table list : List ℕ) (gs : List Guard) (strip recordList : List ℕ) →
+    orderChecks head table list (leb (length gs) mostGuards) strip recordList ≡ Verdict.Passes →
+    bindingsFrom (head .bindings) (unheldPlace (head .poisoned) gs list / 2) 0 (changes list) ≡ guardCheck (head .bindings) (guards (flat gs)) (changes list)
+unfolding properLists guardCheck
+guards-found head table list gs strip recordList h =
+    let healthy = opened head table (order-passed _ _ _ _ _ _ h .opening) .1 in
+    let p = order-proper head table list (leb (length gs) mostGuards) strip recordList h in
+    let few = and-elim-right (properChanges list) (leb (length (changes list)) mostChanges) (and-elim-left (properChanges list && leb (length (changes list)) mostChanges) (leb (length gs) mostGuards) p) in
+    let paired = and-elim-right (properChanges list && leb (length (changes list)) mostChanges) (leb (length gs) mostGuards) p in
+    rw (and-intro (eq-eqb (head .poisoned) 0 healthy) (and-intro few paired), flat-guards gs)
+    (ap (λ (n : ℕ). bindingsFrom (head .bindings) n 0 (changes list))
+    (unheld-change gs (changes list) (length (changes list)) 0 (omega arith))
+    ∙ unheld-known (head .bindings) gs 0 (changes list))
