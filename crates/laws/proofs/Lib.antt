@@ -4,6 +4,7 @@ pub mod Ranks
 pub mod Lists
 pub mod Sorted
 pub mod Flat
+pub mod Flags
 pub mod Steps
 pub mod Undo
 pub mod Prepare
@@ -12,6 +13,7 @@ pub mod Answers
 pub mod Checks
 pub mod Outcomes
 pub mod Calls
+pub mod Unformed
 pub mod Sets
 pub mod Records
 pub mod Rows
