@@ -87,7 +87,7 @@ module _ (head : Head) (table : List ℕ) (c : Call) where
       absurd (clash (isAccepted a) (rw k at h) (unchanged-accepts-not a (refusal-unchanged a (p a e))))
 
   -- a call that no check refused has passed them all
-  unless-passes :
+  pub unless-passes :
       (v : Verdict) (o : Outcome) → Says isRefusal v →
       isRefusal (unlessRefused v (asBefore head table (c .recordList)) o .answer) ≡ false → v ≡ Verdict.Passes
   unless-passes Verdict.Passes o p h = refl

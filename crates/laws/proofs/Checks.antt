@@ -295,6 +295,11 @@ module _ (head : Head) (table : List ℕ) where
   unfolding openingChecks tableCheck poisonCheck firstRefusal
   open-passes f k = rw (f, eq-eqb (head .poisoned) 0 k)
 
+  -- a table that is not well formed is refused with 1, whatever its flag is
+  pub open-unformed : wellFormed head table ≡ false → openingChecks head table ≡ Verdict.Refused Answer.Table
+  unfolding openingChecks tableCheck firstRefusal
+  open-unformed f = rw f
+
   -- a poisoned table is refused with 2
   pub open-poisoned : wellFormed head table ≡ true → head .poisoned ≡ 1 → openingChecks head table ≡ Verdict.Refused Answer.Poisoned
   unfolding openingChecks tableCheck poisonCheck firstRefusal

@@ -86,6 +86,10 @@ abbrev pub RefusesPoisoned : Head → List ℕ → Call → Outcome → Type 0
 RefusesPoisoned head table c o =
     wellFormed head table ≡ true → head .poisoned ≡ 1 → o ≡ asBefore head table (c .recordList) Answer.Poisoned
 
+-- it is refused with 1, whatever its poison flag is, and nothing changes
+abbrev pub RefusesUnformed : Head → List ℕ → Call → Outcome → Type 0
+RefusesUnformed head table c o = wellFormed head table ≡ false → o ≡ asBefore head table (c .recordList) Answer.Table
+
 -- upstream's stable, and the table's size: no answer touches the binding count, and only 12 and 13 touch the poison flag
 pub record Stable (head : Head) (table : List ℕ) (o : Outcome) : Type 0 where
   pub bindings : o .head .bindings ≡ head .bindings
