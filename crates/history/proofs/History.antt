@@ -5,17 +5,19 @@ use mathlib.Core.Path.{_≡_, refl, sym, ap, _∙_}
 use mathlib.Core.List.{List, [], _∷_, _++_, map}
 use mathlib.Core.Bool.{Bool, true, false, cond, not, _&&_}
 use mathlib.Mathlib.Data.Bool.Basic.{and-elim-left, and-elim-right}
-use lib.ListN.{length}
+use lib.ListN.{length, take, drop, length-map}
+use lib.Seq.{take-at}
 use lib.Dec.{ltb}
 use borrow.Author.Tests.{not-true}
 use Rattle.strips.specs.Strips.{properBytes, properStrip}
+use Rattle.lent_lists.specs.Written.{written}
 use Rattle.rules.specs.declared.Posting.{Posting}
 use Rattle.rules.specs.declared.Head.{Head}
 use Rattle.rules.specs.declared.Answer.{Answer}
 use Rattle.rules.specs.declared.Verdict.{Verdict}
 use Rattle.rules.specs.Postings.{ascending, present, rowsUnder, counted}
 use Rattle.rules.specs.Table.{postings, wellFormed}
-use Rattle.rules.specs.Orders.{destinations, sources, Call, lending, changesOf}
+use Rattle.rules.specs.Orders.{Numbered, destinations, sources, changeNumbers, Call, lending, changesOf}
 use Rattle.rules.specs.Answers.{isAccepted, poisons, settled}
 use Rattle.rules.specs.Checks.{must, orElse, firstRefusal, countChecks}
 use Rattle.rules.specs.Calls.{Outcome, headWith, asBefore, countOf}
@@ -25,6 +27,7 @@ use Rattle.laws.proofs.Flat.{well-formed-parts, used-postings, laid-out-same, p
 use Rattle.laws.proofs.Answers.{Kind, kind}
 use Rattle.laws.proofs.Checks.{open-passes, publish-clear, publish-relent}
 use Rattle.laws.proofs.Sets.{present-said}
+use Rattle.laws.proofs.Outcomes as outcome
 use Rattle.laws.proofs.Rows.{rows-among, rows-rising}
 use Rattle.laws.proofs.Calls.{publish-as-before, publish-well-formed, publish-stable, publish-poisoned, count-poisoned}
 use Rattle.history.specs.Acceptance.{Acceptable}
@@ -162,17 +165,31 @@ again-acceptable head table c d a k =
       quiet = a .quiet;
     }
 
--- and on the same index it answers and leaves the same, with the same record in the list that was lent now
+-- the record that an acceptable call writes stands at the front of its list
+front-record :
+    (c : Call) (list : List ℕ) →
+    take (length (destinations (changesOf c))) (written (changeNumbers (destinations (changesOf c))) list) ≡ changeNumbers (destinations (changesOf c))
+front-record c list =
+    take-at (changeNumbers (destinations (changesOf c))) (drop (length (changeNumbers (destinations (changesOf c)))) list)
+    (length (destinations (changesOf c)))
+    (length-map (destinations (changesOf c)) (λ (d : Numbered). d .number))
+
+-- so on the same index it answers and leaves the same when it is made again, with the same record in the list that was lent now
 pub again-same : (x : Index) (c d : Call) → Again c d → Acceptable (x .head) (x .table) c → published x d ≡ relent d (published x c)
 again-same x c d a k =
     let o = acceptable-outcome (x .head) (x .table) in
     ap (published x) (again-is c d a)
-    ∙ (o (relending c d) (again-acceptable (x .head) (x .table) c d a k)
-    ∙ (ap (relent (relending c d)) (sym (o c k)) ∙ ap (λ (e : Call). relent e (published x c)) (sym (again-is c d a))))
+    ∙ (o (relending c d) (again-acceptable (x .head) (x .table) c d a k) ∙ (anew ∙ ap (relent d) (sym (o c k))))
+  where
+    anew : outcome.accepted (x .head) (x .table) (relending c d) ≡ relent d (outcome.accepted (x .head) (x .table) c)
+    anew = rw (front-record c (c .recordList))
 
 -- lent its own list again, an acceptable call has the record there already
 own-record : (x : Index) (c : Call) → Acceptable (x .head) (x .table) c → relent (quiet c) (published x c) ≡ published x c
-own-record x c k = let o = acceptable-outcome (x .head) (x .table) c k in ap (relent (quiet c)) o ∙ sym o
+own-record x c k = let o = acceptable-outcome (x .head) (x .table) c k in ap (relent (quiet c)) o ∙ (own ∙ sym o)
+  where
+    own : relent (quiet c) (outcome.accepted (x .head) (x .table) c) ≡ outcome.accepted (x .head) (x .table) c
+    own = rw (front-record c (c .recordList))
 
 -- the empty strip will do, with the list that was lent the first time: an acceptable call had room
 quiet-again : (head : Head) (table : List ℕ) (c : Call) → Acceptable head table c → Again c (quiet c)

@@ -4,7 +4,7 @@ use Prim.Native.Nat.{ℕ, _+_, _≤_}
 use mathlib.Core.Path.{_≡_}
 use mathlib.Core.List.{List, [], _∷_, _++_, map}
 use mathlib.Core.Bool.{Bool, true, false, cond, not, _&&_, _||_}
-use lib.ListN.{length}
+use lib.ListN.{length, take}
 use lib.Dec.{ltb}
 use Rattle.strips.specs.Strips.{properStrip}
 use Rattle.rules.specs.declared.Posting.{Posting}
@@ -12,8 +12,8 @@ use Rattle.rules.specs.declared.Head.{Head}
 use Rattle.rules.specs.declared.Answer.{Answer}
 use Rattle.rules.specs.Postings.{present, counted}
 use Rattle.rules.specs.Table.{postings, laidOut, wellFormed}
-use Rattle.rules.specs.Orders.{destinations, sources, postingsOf, changeNumbers, Call, changesOf}
-use Rattle.rules.specs.Answers.{isAccepted, poisons}
+use Rattle.rules.specs.Orders.{destinations, sources, postingsOf, Call, changesOf}
+use Rattle.rules.specs.Answers.{toldOf, isAccepted, poisons}
 use Rattle.lent_lists.specs.Among.{among}
 use Rattle.lent_lists.specs.Written.{written}
 use Rattle.rules.specs.Calls.{Outcome, asBefore, headWith, publishOf, countOf}
@@ -108,17 +108,16 @@ pub data AllAgain : List Call → List Call → Type 0 where
   none : AllAgain [] []
   next : {c d : Call} {cs ds : List Call} → Again c d → AllAgain cs ds → AllAgain (c ∷ cs) (d ∷ ds)
 
--- an outcome with the record at the front of the list that another call lent, and that list's later places
+-- the record that an accepted call wrote: as many numbers as it names, at the front of its list
+abbrev pub recordIn : Outcome → List ℕ
+recordIn o = take (toldOf (o .answer) .named) (o .recordList)
+
+-- the same outcome where another call lent the list: the same record stands at the front of that list, and its later places stay
 abbrev pub relent : Call → Outcome → Outcome
 relent d o =
-    record {
-      answer = o .answer;
-      head = o .head;
-      table = o .table;
-      recordList = written (changeNumbers (destinations (changesOf d))) (d .recordList);
-    }
+    record { answer = o .answer; head = o .head; table = o .table; recordList = written (recordIn o) (d .recordList) }
 
--- outcomes, each so with the call in its place
+-- outcomes, each so with the call at its place
 unfoldable pub relentAll : List Call → List Outcome → List Outcome
 relentAll [] os = []
 relentAll (d ∷ ds) [] = []
