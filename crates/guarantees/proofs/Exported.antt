@@ -29,9 +29,12 @@ use Rattle.bucket_rules.specs.Calls as bucketCalls
 use Rattle.bucket_rules.specs.Calls.{sortOf, bitmapOf}
 use Rattle.bucket_rules.specs.Stamps.{precedes}
 use Rattle.buckets.specs.Promises as bucket
-use Rattle.exports.specs.declared.Done.{Done}
-use Rattle.exports.specs.declared.Detached.{Detached}
-use Rattle.exports.specs.Promises.{postingSeen, PreparePromise, RollbackPromise, RemovalPromise, PublishPromise, LentPublishPromise, HeldPromise, CountPromise, laneSeen, CachedPromise, RefreshedPromise, DetachPromise, BucketSeen, bucketSeen, threeNumbers, withOther, SortPromise, BitmapPromise, PrecedesPromise}
+use Rattle.exports_postings.specs.declared.Done.{Done}
+use Rattle.exports_postings.specs.Promises.{postingSeen, PreparePromise, RollbackPromise, RemovalPromise, PublishPromise, CountPromise}
+use Rattle.exports_lent.specs.Promises.{LentPublishPromise, HeldPromise}
+use Rattle.exports_lanes.specs.declared.Detached.{Detached}
+use Rattle.exports_lanes.specs.Promises.{laneSeen, CachedPromise, RefreshedPromise, DetachPromise}
+use Rattle.exports_buckets.specs.Promises.{BucketSeen, bucketSeen, threeNumbers, withOther, SortPromise, BitmapPromise, PrecedesPromise}
 use Rattle.guarantees.specs.Runs.{Made, Run, CallsRightOrWithheld}
 use Rattle.guarantees.specs.Exported.{Behind, Crossed, RunAcross, AllInner}
 use Rattle.guarantees.proofs.History.{calls-right-or-withheld}

@@ -10,7 +10,7 @@ use Rattle.rules.specs.Answers.{toldOf}
 use Rattle.rules.specs.Orders.{lending}
 use Rattle.history.specs.History.{Index}
 use Rattle.entry.specs.Asking.{flat}
-use Rattle.exports.specs.Promises.{LentPublishPromise}
+use Rattle.exports_lent.specs.Promises.{LentPublishPromise}
 use Rattle.guarantees.specs.Runs.{Made}
 
 -- behind the numbers that were told is an answer that tells them, and of which a claim holds
