@@ -11,11 +11,9 @@ use Rattle.rules.specs.Table.{wellFormed}
 use Rattle.rules.specs.Orders.{Call}
 use Rattle.rules.specs.declared.Done.{Done}
 use Rattle.rules.specs.Calls.{prepareOf, rollbackOf, removalOf, publishOf, countOf, outcomeOf}
-use Rattle.laws.specs.Words.{AsBefore, StaysWellFormed, Stable, RefusesPoisoned}
-use Rattle.laws.specs.Words.{RefusesUnformed}
+use Rattle.laws.specs.Words.{AsBefore, StaysWellFormed, Stable, RefusesPoisoned, RefusesUnformed}
 use Rattle.laws.proofs.Answers.{told-injective}
 use Rattle.laws.proofs.Calls as law
-use Rattle.laws.proofs.Calls as unformed
 use Rattle.publish.specs.Promises.{PreparePromise, RollbackPromise, RemovalPromise, PublishPromise, CountPromise}
 use Rattle.guarantees.proofs.Acceptance.{of-result}
 
@@ -74,16 +72,16 @@ module _ (head : Head) (table : List ℕ) (c : Call) (r : Done) (t l : List ℕ)
 
   -- a table that is not well formed is refused with 1, whatever its poison flag is, and nothing changes
   pub prepare-unformed : PreparePromise head table c r t l → RefusesUnformed head table c (outcomeOf r t l)
-  prepare-unformed k = of-result (RefusesUnformed head table c) r t l (prepareOf head table c) k (unformed.prepare-unformed head table c)
+  prepare-unformed k = of-result (RefusesUnformed head table c) r t l (prepareOf head table c) k (law.prepare-unformed head table c)
 
   pub rollback-unformed : RollbackPromise head table c r t l → RefusesUnformed head table c (outcomeOf r t l)
-  rollback-unformed k = of-result (RefusesUnformed head table c) r t l (rollbackOf head table c) k (unformed.rollback-unformed head table c)
+  rollback-unformed k = of-result (RefusesUnformed head table c) r t l (rollbackOf head table c) k (law.rollback-unformed head table c)
 
   pub removal-unformed : RemovalPromise head table c r t l → RefusesUnformed head table c (outcomeOf r t l)
-  removal-unformed k = of-result (RefusesUnformed head table c) r t l (removalOf head table c) k (unformed.removal-unformed head table c)
+  removal-unformed k = of-result (RefusesUnformed head table c) r t l (removalOf head table c) k (law.removal-unformed head table c)
 
   pub publish-unformed : PublishPromise head table c r t l → RefusesUnformed head table c (outcomeOf r t l)
-  publish-unformed k = of-result (RefusesUnformed head table c) r t l (publishOf head table c) k (unformed.publish-unformed head table c)
+  publish-unformed k = of-result (RefusesUnformed head table c) r t l (publishOf head table c) k (law.publish-unformed head table c)
 
 -- every count of a poisoned table is refused with 2
 pub count-poisoned :
@@ -97,4 +95,4 @@ pub count-unformed :
     (head : Head) (table : List ℕ) (binding key : ℕ) (a : Answer) → CountPromise head table binding key a →
     wellFormed head table ≡ false → a ≡ Answer.Table
 count-unformed head table binding key a k f =
-    told-injective a (countOf head table binding key) k ∙ unformed.count-unformed head table f binding key
+    told-injective a (countOf head table binding key) k ∙ law.count-unformed head table f binding key

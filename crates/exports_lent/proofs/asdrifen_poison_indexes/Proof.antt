@@ -31,7 +31,7 @@ use denote.Triple.Table.{entered, cited}
 use denote.Triple.Walked.{says, Stays, gave-ref, walkOf, AllGo, goes-gave-ref, Walks, ends-at, walked, walk-meets}
 use Rattle.rules.specs.declared.Head.{Head}
 use Rattle.rules.proofs.Head as T
-use Rattle.entry.specs.Promises.{poisonedHead}
+use Rattle.guarding.specs.InPlace.{poisonedHead}
 use Rattle.entry.proofs.poison_indexes as poison
 use Rattle.entry.proofs.poison_indexes.Symbol as poison-def
 use Rattle.entry.proofs.poison_indexes.Symbol.{name as #entry·poison-indexes}
