@@ -1,9 +1,9 @@
 -- The three numbers from three times the place on are the posting there.
 use mathlib.Core.Path.{sym}
 use borrow.Author.Needs.{needs}
-use Rattle.table.proofs.Cells.{cell-at}
-use Rattle.table.proofs.read.Statement.{statement}
-use Rattle.table.proofs.read.Tie as tie
+use Rattle.table_postings.proofs.Cells.{cell-at}
+use Rattle.table_postings.proofs.read.Statement.{statement}
+use Rattle.table_postings.proofs.read.Tie as tie
 
 mul-first : tie.Need-mul-first
 mul-first c = search needs

@@ -6,7 +6,7 @@ use mathlib.Core.List.{List, [], _∷_}
 use lib.ListN.{length, getD}
 use Rattle.rules.specs.Table.{cells}
 use Rattle.rules.specs.declared.Posting.{Posting}
-use Rattle.table.specs.Holding.{blank}
+use Rattle.table_postings.specs.Stored.{blank}
 
 pub length-cells : (t : List ℕ) → length (cells t) ≡ length t / 3
 unfolding cells

@@ -1,67 +1,34 @@
--- What is left of the postings in use where a walk has come to a place: the posting read there, and the rest.
+-- What the walks of the checks find: the postings ascend, the last binding decides, and the bits of all numbers past them are none.
 use Prim.Native.Nat.{ℕ, zero, suc, _+_, _-_, _*_, _<_, _≤_}
 use native.Mathlib.Omega.{arith}
 use mathlib.Core.Path.{_≡_, refl, sym, ap, _∙_}
 use mathlib.Core.List.{List, [], _∷_}
-use mathlib.Core.Bool.{Bool, true, false, cond, _&&_, and-true, and-false, and-assoc}
+use mathlib.Core.Bool.{Bool, true, false, _&&_, and-true, and-false, and-assoc}
 use mathlib.Mathlib.Data.Bool.Basic.{and-elim-left, and-elim-right, and-intro}
-use lib.ListN.{length, getD, drop, length-drop, drop-of-length-le}
-use lib.Seq.{getD-take, length-take-le}
+use lib.ListN.{length, getD, drop, length-drop}
+use lib.Seq.{getD-take}
 use lib.Dec.{eqb, ltb}
 use lib.Bits.{bitOr, or-add-and, and-le-l, and-le-r}
 use borrow.Author.Tests.{ltb-true, eqb-true, lt-ltb, eq-eqb}
 use Rattle.rules.specs.declared.Posting.{Posting}
 use Rattle.rules.specs.declared.Order.{Order}
-use Rattle.rules.specs.Postings.{every, ranked, compared, isBefore, chain, ascending, rowsUnder, bindingBelow}
+use Rattle.rules.specs.Postings.{every, ranked, compared, isBefore, chain, ascending, bindingBelow}
 use Rattle.rules.specs.Table.{cells, postings}
 use Rattle.booleans.proofs.Tests.{impossible, Tri, less, equal, more, tri, equal-tests}
-use Rattle.laws.proofs.Left.{item-left, every-left, every-none}
+use Rattle.laws.proofs.Left.{every-left, every-none}
 use Rattle.laws.proofs.Ranks.{ranked-more}
 use Rattle.laws.proofs.Sorted.{chain-before, chain-rest}
-use Rattle.table.specs.Holding.{blank}
-use Rattle.table.proofs.Cells.{length-cells}
+use Rattle.table_postings.specs.Stored.{blank}
+use Rattle.table_postings.proofs.Reading.{length-postings, next-left}
 
-module _ (t : List ℕ) (used : ℕ) (room : used * 3 ≤ length t) where
-  pub length-postings : length (postings used t) ≡ used
-  length-postings = let e = length-cells t in length-take-le used (cells t) (omega arith)
-
-  pub none-left : drop used (postings used t) ≡ []
-  none-left = let e = length-postings in drop-of-length-le (postings used t) {i = used} (omega arith)
-
-  pub posting-left :
-      (i : ℕ) → i < used → drop i (postings used t) ≡ getD (cells t) i blank ∷ drop (i + 1) (postings used t)
-  posting-left i h =
-      let k : i < length (postings used t) = rw length-postings h in
-      item-left blank (postings used t) i k ∙ rw (getD-take used (cells t) i blank h)
-
--- the postings that a walk has before it, the one just read first
+-- the posting just read, and those after it
 module _ (t : List ℕ) (used : ℕ) (room : used * 3 ≤ length t) (i : ℕ) (h : i < used) (q : Posting)
     (r : q ≡ getD (cells t) i blank) where
-  pub next-left : drop i (postings used t) ≡ q ∷ drop (i + 1) (postings used t)
-  next-left = rw r (posting-left t used room i h)
-
   pub chain-left :
       (p : Posting) (b : Bool) → isBefore (compared p q) ≡ b →
       chain p (drop i (postings used t)) ≡ (b && chain q (drop (i + 1) (postings used t)))
   unfolding chain
-  chain-left p b e = rw (next-left, e)
-
-  pub bucket-left :
-      (binding key : ℕ) →
-      length (rowsUnder binding key (drop i (postings used t))) ≡
-      cond (eqb binding (q .binding) && eqb key (q .key)) 1 0 + length (rowsUnder binding key (drop (i + 1) (postings used t)))
-  unfolding rowsUnder
-  bucket-left binding key = rw next-left (counted-head (eqb binding (q .binding) && eqb key (q .key)))
-    where
-      counted-head :
-          (b : Bool) →
-          length
-          (cond b (q .row ∷ rowsUnder binding key (drop (i + 1) (postings used t)))
-          (rowsUnder binding key (drop (i + 1) (postings used t))))
-          ≡
-          cond b 1 0 + length (rowsUnder binding key (drop (i + 1) (postings used t)))
-      counted-head true = omega arith
-      counted-head false = omega arith
+  chain-left p b e = rw (next-left t used room i h q r, e)
 
 -- the first posting, and those after it
 pub ascending-left :
@@ -77,10 +44,6 @@ none-ascend t used e = rw e
 pub none-chained : (p : Posting) → chain p [] ≡ true
 unfolding chain
 none-chained p = refl
-
-pub none-counted : (binding key : ℕ) → length (rowsUnder binding key []) ≡ 0
-unfolding rowsUnder
-none-counted binding key = refl
 
 binding-before : (p q : Posting) → compared p q ≡ Order.Before → p .binding ≤ q .binding
 unfolding compared
@@ -134,15 +97,6 @@ bindings-within t used bindings room h sorted last e =
 pub none-within : (t : List ℕ) (used bindings : ℕ) → used ≡ 0 → every (bindingBelow bindings) (postings used t) ≡ true
 unfolding every
 none-within t used bindings e = rw e
-
--- a posting counts for one, or for none
-pub one-most :
-    (binding key : ℕ) (q : Posting) {n : ℕ} → n ≡ cond (eqb binding (q .binding) && eqb key (q .key)) 1 0 → n ≤ 1
-one-most binding key q {n} e = go (eqb binding (q .binding) && eqb key (q .key)) e
-  where
-    go : (b : Bool) → n ≡ cond b 1 0 → n ≤ 1
-    go true f = omega arith
-    go false f = omega arith
 
 -- two numbers are 0 where their bits together are
 pub zero-bits : (a b : ℕ) → eqb 0 (bitOr a b) ≡ (eqb 0 a && eqb 0 b)

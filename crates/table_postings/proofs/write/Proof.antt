@@ -2,8 +2,8 @@
 use native.Mathlib.Omega.{arith}
 use lib.ListN.{length-set}
 use borrow.Author.Needs.{needs}
-use Rattle.table.proofs.write.Statement.{statement}
-use Rattle.table.proofs.write.Tie as tie
+use Rattle.table_postings.proofs.write.Statement.{statement}
+use Rattle.table_postings.proofs.write.Tie as tie
 
 mul-first : tie.Need-mul-first
 mul-first c = search needs

@@ -6,9 +6,9 @@ use lib.Dec.{eqb}
 use lib.ListN.{length, drop}
 use borrow.Author.Needs.{needs}
 use Rattle.rules.specs.Postings.{every}
-use Rattle.table.proofs.Reading.{zeros-turn, zeros-end}
-use Rattle.table.proofs.zero_from.Statement.{statement}
-use Rattle.table.proofs.zero_from.Tie as tie
+use Rattle.table_checks.proofs.Walks.{zeros-turn, zeros-end}
+use Rattle.table_checks.proofs.zero_from.Statement.{statement}
+use Rattle.table_checks.proofs.zero_from.Tie as tie
 
 abbrev Inv-loop : tie.InvT-loop
 Inv-loop table from bits₀ i₀ bits i =

@@ -5,8 +5,8 @@ use mathlib.Core.Path.{sym, _∙_}
 use borrow.Author.Needs.{needs}
 use borrow.Author.Tests.{eq-eqb, ne-eqb, le-leb, lt-leb}
 use Rattle.rules.specs.Table.{allOf, limitsHold, wellFormed}
-use Rattle.table.proofs.well_formed.Statement.{statement}
-use Rattle.table.proofs.well_formed.Tie as tie
+use Rattle.table_checks.proofs.well_formed.Statement.{statement}
+use Rattle.table_checks.proofs.well_formed.Tie as tie
 
 returns : tie.Need-returns
 unfolding wellFormed limitsHold allOf

@@ -1,9 +1,9 @@
 -- The last posting decides, since the postings ascend.
 use mathlib.Core.Path.{sym}
 use borrow.Author.Needs.{needs}
-use Rattle.table.proofs.Reading.{bindings-within, none-within}
-use Rattle.table.proofs.all_within.Statement.{statement}
-use Rattle.table.proofs.all_within.Tie as tie
+use Rattle.table_checks.proofs.Walks.{bindings-within, none-within}
+use Rattle.table_checks.proofs.all_within.Statement.{statement}
+use Rattle.table_checks.proofs.all_within.Tie as tie
 
 returns : tie.Need-returns
 returns c = sym (none-within _ _ _ (c .if1 .taken))

@@ -1,8 +1,8 @@
 -- Each way out is one test of the definition.
 use borrow.Author.Tests.{lt-ltb, le-ltb}
 use Rattle.rules.specs.Postings.{ranked}
-use Rattle.table.proofs.rank.Statement.{statement}
-use Rattle.table.proofs.rank.Tie as tie
+use Rattle.table_postings.proofs.rank.Statement.{statement}
+use Rattle.table_postings.proofs.rank.Tie as tie
 
 returns : tie.Need-returns
 unfolding ranked

@@ -7,9 +7,10 @@ use lib.ListN.{drop}
 use borrow.Author.Needs.{needs}
 use Rattle.rules.specs.Postings.{chain, ascending}
 use Rattle.rules.specs.Table.{postings}
-use Rattle.table.proofs.Reading.{none-left, chain-left, ascending-left, none-ascend, none-chained}
-use Rattle.table.proofs.ascends.Statement.{statement}
-use Rattle.table.proofs.ascends.Tie as tie
+use Rattle.table_postings.proofs.Reading.{none-left}
+use Rattle.table_checks.proofs.Walks.{chain-left, ascending-left, none-ascend, none-chained}
+use Rattle.table_checks.proofs.ascends.Statement.{statement}
+use Rattle.table_checks.proofs.ascends.Tie as tie
 
 abbrev Inv-loop : tie.InvT-loop
 Inv-loop table used last₀ i₀ last i = (i ≤ used) × (ascending (postings used table) ≡ chain last (drop i (postings used table)))
