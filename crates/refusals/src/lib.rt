@@ -20,7 +20,7 @@ ghost use Rattle.refusals.specs.Lending.{guardedChecks};
 fn of_table(head: Head, table: &[u32]) -> Verdict
     ensures { λ r. ⌜ r ≡ firstRefusal (tableCheck head (now (table .entry)) ∷ poisonCheck head ∷ []) ⌝ }
 {
-    if table::well_formed(head, table) {
+    if table_checks::well_formed(head, table) {
         if head.poisoned == 0 {
             return Verdict::Passes;
         }
