@@ -4,10 +4,10 @@ use native.Mathlib.Omega.{arith}
 use lib.ListN.{length}
 use borrow.Author.Needs.{needs}
 use Rattle.rules.specs.Orders.{changes}
-use Rattle.steps.specs.Leaving.{asRecorded}
-use Rattle.steps.proofs.Undos.{Undoing, undo-start, undo-turn, undo-end, recorded-backward, number-below}
-use Rattle.steps.proofs.rollback.Statement.{statement}
-use Rattle.steps.proofs.rollback.Tie as tie
+use Rattle.steps_undo.specs.Leaving.{asRecorded}
+use Rattle.steps_undo.proofs.Undos.{Undoing, undo-start, undo-turn, undo-end, recorded-backward, number-below}
+use Rattle.steps_undo.proofs.rollback.Statement.{statement}
+use Rattle.steps_undo.proofs.rollback.Tie as tie
 
 abbrev Inv-loop : tie.InvT-loop
 Inv-loop table₀ list strip «record» used so-far₀ place₀ table so-far place =

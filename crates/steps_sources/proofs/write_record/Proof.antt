@@ -4,9 +4,9 @@ use native.Mathlib.Omega.{arith}
 use mathlib.Core.Path.{sym, _∙_}
 use borrow.Author.Needs.{needs}
 use Rattle.rules.specs.Orders.{changes}
-use Rattle.steps.proofs.Writing.{Recording, record-start, record-pass, record-turn, record-end}
-use Rattle.steps.proofs.write_record.Statement.{statement}
-use Rattle.steps.proofs.write_record.Tie as tie
+use Rattle.steps_sources.proofs.Writing.{Recording, record-start, record-pass, record-turn, record-end}
+use Rattle.steps_sources.proofs.write_record.Statement.{statement}
+use Rattle.steps_sources.proofs.write_record.Tie as tie
 
 abbrev Inv-loop : tie.InvT-loop
 Inv-loop list record₀ n place₀ i₀ «record» place i = Recording (changes list) record₀ «record» place i

@@ -2,10 +2,10 @@
 use native.Mathlib.Omega.{arith}
 use borrow.Author.Needs.{needs}
 use Rattle.rules.specs.Orders.{changes}
-use Rattle.steps.specs.Leaving.{inOrder}
-use Rattle.steps.proofs.Undos.{Undoing, undo-start, undo-turn, undo-end}
-use Rattle.steps.proofs.undo_below.Statement.{statement}
-use Rattle.steps.proofs.undo_below.Tie as tie
+use Rattle.steps_undo.specs.Leaving.{inOrder}
+use Rattle.steps_undo.proofs.Undos.{Undoing, undo-start, undo-turn, undo-end}
+use Rattle.steps_undo.proofs.undo_below.Statement.{statement}
+use Rattle.steps_undo.proofs.undo_below.Tie as tie
 
 abbrev Inv-loop : tie.InvT-loop
 Inv-loop table₀ list strip change used read so-far₀ i₀ table so-far i =

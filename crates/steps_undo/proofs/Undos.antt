@@ -18,14 +18,14 @@ use Rattle.rules.specs.Table.{postings}
 use Rattle.rules.specs.Orders.{Numbered, named, destinationOf, noChange, recorded}
 use Rattle.rules.specs.Storage.{removal}
 use Rattle.rules.specs.Postings.{every}
-use Rattle.rules.specs.Publication.{Undone, undoing, whyNot, notInserted}
+use Rattle.rules.specs.Publication.{undoing}
 use Rattle.changes.proofs.Walk.{named-append}
 use Rattle.table.specs.Holding.{Ordered}
 use Rattle.table.proofs.Keeping.{carries-postings, carries-ordered}
 use Rattle.storage.specs.declared.Removed.{Removed}
-use Rattle.steps.specs.declared.Back.{Back}
+use Rattle.steps_undo.specs.declared.Back.{Back}
 use Rattle.storage.specs.Leaving.{RemovalIn}
-use Rattle.steps.specs.Leaving.{UndoneIn, OneUndone, StageIn, backward, asRecorded}
+use Rattle.steps_undo.specs.Leaving.{UndoneIn, OneUndone, backward, asRecorded}
 
 -- a change with no destination leaves all as it is
 pub undone-none :
@@ -167,27 +167,3 @@ number-below count [] i e h = absurd (omega arith)
 number-below count (n ∷ ns) zero e h = ltb-true n count (and-elim-left (ltb n count) (every (λ n. ltb n count) ns) e)
 number-below count (n ∷ ns) (suc i) e h =
     number-below count ns i (and-elim-right (ltb n count) (every (λ n. ltb n count) ns) e) (omega arith)
-
--- a change could not be inserted: the answer that says why where the undo was clean, else 12 with that change
-module _ (why : Answer) (change : ℕ) {u : Undone} {b : Back} {t : List ℕ} {most : ℕ} (o : UndoneIn u b t most) where
-  pub undone-clean :
-      b .verdict ≡ Verdict.Passes → StageIn (notInserted why change u)
-      (record { answer = why; used = b .used; read = b .read }) t most
-  undone-clean e =
-      record {
-        answer = ap (λ (v : Verdict). whyNot v why change) (sym e ∙ o .verdict);
-        carries = o .carries;
-        read = o .read;
-        few = o .few;
-      }
-
-  pub undone-failed :
-      (a : Answer) → b .verdict ≡ Verdict.Refused a →
-      StageIn (notInserted why change u) (record { answer = Answer.Undo change; used = b .used; read = b .read }) t most
-  undone-failed a e =
-      record {
-        answer = ap (λ (v : Verdict). whyNot v why change) (sym e ∙ o .verdict);
-        carries = o .carries;
-        read = o .read;
-        few = o .few;
-      }

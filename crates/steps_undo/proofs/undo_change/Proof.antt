@@ -3,9 +3,9 @@ use native.Mathlib.Omega.{arith}
 use mathlib.Core.Bool.{true, false}
 use mathlib.Core.Path.{sym, _∙_}
 use borrow.Author.Needs.{needs}
-use Rattle.steps.proofs.Undos.{undone-none, undone-one}
-use Rattle.steps.proofs.undo_change.Statement.{statement}
-use Rattle.steps.proofs.undo_change.Tie as tie
+use Rattle.steps_undo.proofs.Undos.{undone-none, undone-one}
+use Rattle.steps_undo.proofs.undo_change.Statement.{statement}
+use Rattle.steps_undo.proofs.undo_change.Tie as tie
 
 change-at-requires : tie.Need-change-at-requires
 change-at-requires c κs = search needs

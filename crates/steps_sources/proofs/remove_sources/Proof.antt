@@ -5,9 +5,9 @@ use mathlib.Core.Path.{sym, _∙_}
 use borrow.Author.Needs.{needs}
 use Rattle.rules.specs.Orders.{changes}
 use Rattle.changes.proofs.Walk.{changes-length}
-use Rattle.steps.proofs.Removals.{Removing, remove-start, remove-pass, remove-clear, remove-stop, remove-end}
-use Rattle.steps.proofs.remove_sources.Statement.{statement}
-use Rattle.steps.proofs.remove_sources.Tie as tie
+use Rattle.steps_sources.proofs.Removals.{Removing, remove-start, remove-pass, remove-clear, remove-stop, remove-end}
+use Rattle.steps_sources.proofs.remove_sources.Statement.{statement}
+use Rattle.steps_sources.proofs.remove_sources.Tie as tie
 
 abbrev Inv-loop : tie.InvT-loop
 Inv-loop table₀ list strip clear used read n used₀ read₀ i₀ table used' read' i =
