@@ -34,7 +34,7 @@ fn goes_to(list: &[u32], i: usize, p: Posting) -> bool
     let Key::Named(key) = destination_of(change) else {
         return false;
     };
-    table::equal(posting_of(change, key), p)
+    table_postings::equal(posting_of(change, key), p)
 }
 
 // Two changes have one destination.

@@ -21,7 +21,7 @@ ghost use Rattle.checks.specs.Guarding.{bindingsFrom};
 fn opening(head: Head, table: &[u32]) -> Verdict
     ensures { λ r. ⌜ r ≡ openingChecks head (now (table .entry)) ⌝ }
 {
-    if table::well_formed(head, table) {
+    if table_checks::well_formed(head, table) {
         if head.poisoned == 0 {
             return Verdict::Passes;
         }

@@ -1,4 +1,4 @@
--- Prepare: the turns of its walk up the changes.
+-- Prepare: the turns of its walk up the changes, and its end where a change could not be inserted.
 use Prim.Native.Nat.{ℕ, _+_, _*_, _<_, _≤_}
 use native.Mathlib.Omega.{arith}
 use native.Mathlib.Numerals.{add-one}
@@ -15,16 +15,18 @@ use Rattle.rules.specs.declared.Verdict.{Verdict}
 use Rattle.rules.specs.Table.{capacity, postings}
 use Rattle.rules.specs.Orders.{Numbered, named, destinationOf, destinationsFrom, noChange}
 use Rattle.rules.specs.Storage.{insertion}
-use Rattle.rules.specs.Publication.{Undone, Stage, undoing, notInserted, byFault, preparing}
+use Rattle.rules.specs.Publication.{Undone, Stage, undoing, whyNot, notInserted, byFault, preparing}
 use Rattle.booleans.proofs.Tests.{impossible}
 use Rattle.changes.proofs.Walk.{destinations-left, destinations-none}
 use Rattle.table.specs.Holding.{Ordered}
 use Rattle.table.proofs.Keeping.{carries-postings, carries-ordered}
 use Rattle.storage.specs.declared.Inserted.{Inserted}
-use Rattle.steps.specs.declared.Reached.{Reached}
 use Rattle.storage.specs.Leaving.{InsertionIn}
-use Rattle.steps.specs.Leaving.{blamedOn, StageIn, backward, inOrder}
-use Rattle.steps.proofs.Undos.{backward-none}
+use Rattle.steps_undo.specs.declared.Back.{Back}
+use Rattle.steps_undo.specs.Leaving.{UndoneIn, backward, inOrder}
+use Rattle.steps_undo.proofs.Undos.{backward-none}
+use Rattle.steps.specs.declared.Reached.{Reached}
+use Rattle.steps.specs.Leaving.{blamedOn, StageIn}
 
 -- a prepare that has come up to i, with so many postings inserted
 pub record Preparing (cs : List Change) (strip : List ℕ) (used₀ : ℕ) (t₀ t : List ℕ) (used read inserted i : ℕ) : Type 0 where
@@ -173,3 +175,27 @@ module _ {cs : List Change} {strip : List ℕ} {used₀ : ℕ} {t₀ t : List �
           let m = u .few in
           rw (stepped (r .fault) refl ∙ blamed-ends (r .fault) i why e _ _)
           (record { answer = u .answer; carries = u .carries; read = u .read; few = omega arith })
+
+-- a change could not be inserted: the answer that says why where the undo was clean, else 12 with that change
+module _ (why : Answer) (change : ℕ) {u : Undone} {b : Back} {t : List ℕ} {most : ℕ} (o : UndoneIn u b t most) where
+  pub undone-clean :
+      b .verdict ≡ Verdict.Passes → StageIn (notInserted why change u)
+      (record { answer = why; used = b .used; read = b .read }) t most
+  undone-clean e =
+      record {
+        answer = ap (λ (v : Verdict). whyNot v why change) (sym e ∙ o .verdict);
+        carries = o .carries;
+        read = o .read;
+        few = o .few;
+      }
+
+  pub undone-failed :
+      (a : Answer) → b .verdict ≡ Verdict.Refused a →
+      StageIn (notInserted why change u) (record { answer = Answer.Undo change; used = b .used; read = b .read }) t most
+  undone-failed a e =
+      record {
+        answer = ap (λ (v : Verdict). whyNot v why change) (sym e ∙ o .verdict);
+        carries = o .carries;
+        read = o .read;
+        few = o .few;
+      }

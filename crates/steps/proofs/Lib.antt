@@ -1,5 +1,2 @@
--- The laws of the steps: the turns of each loop.
-pub mod Undos
-pub mod Removals
+-- The laws of prepare: the turns of its loop, and its end where a change could not be inserted.
 pub mod Insertions
-pub mod Writing

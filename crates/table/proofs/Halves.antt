@@ -14,8 +14,9 @@ use Rattle.rules.specs.Table.{cells, postings}
 use Rattle.booleans.proofs.Tests.{clash}
 use Rattle.laws.proofs.Ranks.{compared-same, before-before}
 use Rattle.laws.proofs.Sorted.{chain-before, chain-rest, ascending-rest}
+use Rattle.table_postings.specs.Stored.{blank}
 use Rattle.table.specs.declared.Place.{Place}
-use Rattle.table.specs.Holding.{Ordered, blank, earlier, placeOf}
+use Rattle.table.specs.Holding.{Ordered, earlier, placeOf}
 use Rattle.table.proofs.Places.{earlier-none, earlier-before, earlier-most, earlier-present, present-before, present-same, present-after}
 
 -- the first of a chain stands before each of the others

@@ -14,9 +14,10 @@ use Rattle.rules.specs.Table.{postings, laidOut, wellFormed}
 use Rattle.laws.proofs.Lists.{length-inserted}
 use Rattle.laws.proofs.Sorted.{ascending-inserted, ascending-removed}
 use Rattle.laws.proofs.Flat.{well-formed-parts, used-postings, laid-out-same, postings-laid-out, length-laid-out}
+use Rattle.table_postings.specs.Stored.{blank, stored}
 use Rattle.table.specs.declared.Place.{Place}
-use Rattle.table.specs.Holding.{Carries, Ordered, placeOf, blank}
-use Rattle.table.specs.Shifts.{stored, lowered}
+use Rattle.table.specs.Holding.{Carries, Ordered, placeOf}
+use Rattle.table.specs.Shifts.{lowered}
 use Rattle.table.proofs.Places.{gap-most, at-inside, gap-absent, inserted-in-gap, inserted-found, removed-found, removed-from-gap}
 use Rattle.table.proofs.Moves.{opened, closed}
 

@@ -1,6 +1,5 @@
--- The laws of the table: how it lies, is walked and searched, where a posting stands, how places open and close, what stays held.
-pub mod Cells
-pub mod Reading
+-- The laws of the table: how it is counted and searched, where a posting stands, how places open and close, what stays held.
+pub mod Counting
 pub mod Places
 pub mod Halves
 pub mod Moves

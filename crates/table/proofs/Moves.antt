@@ -11,8 +11,8 @@ use Rattle.lent_lists.specs.Raised.{raised}
 use Rattle.rules.specs.declared.Posting.{Posting}
 use Rattle.rules.specs.Table.{numbers, laidOut}
 use Rattle.laws.proofs.Flat.{length-numbers}
-use Rattle.table.specs.Holding.{blank}
-use Rattle.table.specs.Shifts.{stored, lowered}
+use Rattle.table_postings.specs.Stored.{blank, stored}
+use Rattle.table.specs.Shifts.{lowered}
 
 slice-more : (f t : ℕ) (l : List ℕ) → f ≤ t → t < length l → slice f (suc t) l ≡ slice f t l ++ (getD l t 0 ∷ [])
 slice-more f t l h k =

@@ -20,10 +20,6 @@ pub record Carries (table : List ℕ) (used : ℕ) (ps : List Posting) : Type 0 
 abbrev pub Ordered : List ℕ → ℕ → Type 0
 Ordered table used = Carries table used (postings used table)
 
--- a posting that is no posting: what stands past a table's end
-abbrev pub blank : Posting
-blank = record { binding = 0; key = 0; row = 0 }
-
 -- how many of the postings stand before p
 unfoldable pub earlier : Posting → List Posting → ℕ
 earlier p [] = 0

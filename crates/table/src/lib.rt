@@ -1,177 +1,26 @@
-// The posting table over a lent list of numbers, three to a posting: well formed, find, insertion, removal, count.
-// An inner layer, not delivered: `find`, `stands`, `insert` and `remove` ask for a table in order (Ordered), which `well_formed`
-// has tested once for a whole call.
-use rules::Head;
+// The posting table over a lent list of numbers, three to a posting: find, insertion, removal, count. An inner layer, not
+// delivered: `find`, `stands`, `insert` and `remove` ask for a table in order (Ordered), which `table_checks` has tested once for a
+// whole call.
 use rules::Order;
 use rules::Posting;
+use table_postings::compare;
+use table_postings::read;
+use table_postings::write;
 ghost use Prim.Native.Nat.{_*_, _+_, _<_, _≤_};
 ghost use mathlib.Core.Path.{_≡_};
-ghost use mathlib.Core.Bool.{true, cond, _&&_};
-ghost use lib.ListN.{length, drop, getD};
+ghost use mathlib.Core.Bool.{cond, _&&_};
+ghost use lib.ListN.{length};
 ghost use lib.Dec.{eqb};
 ghost use Rattle.lent_lists.specs.Raised.{raised};
-ghost use Rattle.rules.specs.Postings.{every, ranked, compared, isBefore, same, ascending, present, inserted, removed, counted, bindingBelow};
-ghost use Rattle.rules.specs.Table.{cells, capacity, postings, wellFormed};
-ghost use Rattle.table.specs.Holding.{Carries, Ordered, blank, placeOf};
-ghost use Rattle.table.specs.Shifts.{lowered, stored};
-
-// The limits that the code tests: the rules' own numbers.
-pub const MOST_NUMBERS: usize = 12288;
-
-pub const MOST_BINDINGS: u32 = 64;
+ghost use Rattle.rules.specs.Postings.{present, inserted, removed, counted};
+ghost use Rattle.rules.specs.Table.{capacity, postings};
+ghost use Rattle.table.specs.Holding.{Carries, Ordered, placeOf};
+ghost use Rattle.table.specs.Shifts.{lowered};
 
 // Where a posting stands: at a place, or in the gap before one.
 pub enum Place {
     At(usize),
     Gap(usize),
-}
-
-// Two numbers first, and where they are equal what comes next decides.
-fn rank(a: u32, b: u32, next: Order) -> Order
-    ensures { λ r. ⌜ r ≡ ranked a b next ⌝ }
-{
-    if a < b {
-        return Order::Before;
-    }
-    if b < a {
-        return Order::After;
-    }
-    next
-}
-
-// By binding, key, row.
-pub fn compare(p: Posting, q: Posting) -> Order
-    ensures { λ r. ⌜ r ≡ compared p q ⌝ }
-{
-    rank(
-        p.binding,
-        q.binding,
-        rank(p.key, q.key, rank(p.row, q.row, Order::Same)),
-    )
-}
-
-// One and the same posting.
-pub fn equal(p: Posting, q: Posting) -> bool
-    ensures { λ r. ⌜ r ≡ same p q ⌝ }
-{
-    match compare(p, q) {
-        Order::Before => false,
-        Order::Same => true,
-        Order::After => false,
-    }
-}
-
-// The first stands before the second.
-fn before(p: Posting, q: Posting) -> bool
-    ensures { λ r. ⌜ r ≡ isBefore (compared p q) ⌝ }
-{
-    match compare(p, q) {
-        Order::Before => true,
-        Order::Same => false,
-        Order::After => false,
-    }
-}
-
-// The posting at a place. With `write` the one that knows how a posting lies in the table.
-fn read(table: &[u32], at: usize) -> Posting
-    requires { ⌜ at * 3 + 3 ≤ length (now table) ⌝ }
-    ensures { λ r. ⌜ r ≡ getD (cells (now (table .entry))) at blank ⌝ }
-{
-    let first = at * 3;
-    Posting {
-        binding: table[first],
-        key: table[first + 1],
-        row: table[first + 2],
-    }
-}
-
-// A posting written at a place.
-fn write(table: &mut [u32], at: usize, p: Posting)
-    requires { ⌜ at * 3 + 3 ≤ length (now table) ⌝ }
-    ensures { λ _. ⌜ now (table .exit) ≡ stored (at * 3) p (now (table .entry)) ⌝ }
-{
-    let first = at * 3;
-    table[first] = p.binding;
-    table[first + 1] = p.key;
-    table[first + 2] = p.row;
-}
-
-// Each binding is below the count. In an ascending table the last has the greatest, so it alone is looked at.
-fn all_within(table: &[u32], used: usize, bindings: u32) -> bool
-    requires { ⌜ (used * 3 ≤ length (now table)) × (ascending (postings used (now table)) ≡ true) ⌝ }
-    ensures { λ r. ⌜ r ≡ every (bindingBelow bindings) (postings used (now (table .entry))) ⌝ }
-{
-    if used == 0 {
-        return true;
-    }
-    let last = read(table, used - 1);
-    last.binding < bindings
-}
-
-// The postings in use are strictly ascending.
-fn ascends(table: &[u32], used: usize) -> bool
-    requires { ⌜ used * 3 ≤ length (now table) ⌝ }
-    ensures { λ r. ⌜ r ≡ ascending (postings used (now (table .entry))) ⌝ }
-{
-    if used == 0 {
-        return true;
-    }
-    let mut last = read(table, 0);
-    let mut i = 1;
-    while i < used {
-        let next = read(table, i);
-        if before(last, next) {
-            last = next;
-            i += 1;
-        } else {
-            return false;
-        }
-    }
-    true
-}
-
-// Every number from a place on is 0: the bits of all of them together are. Most tables pass, so the walk has no early way out,
-// and goes by several numbers at once.
-fn zero_from(table: &[u32], from: usize) -> bool
-    requires { ⌜ from ≤ length (now table) ⌝ }
-    ensures { λ r. ⌜ r ≡ every (eqb 0) (drop from (now (table .entry))) ⌝ }
-{
-    let mut bits: u32 = 0;
-    let mut i = from;
-    while i < table.len() {
-        bits = bits | table[i];
-        i += 1;
-    }
-    bits == 0
-}
-
-// The limits hold, used is at most the capacity, the postings ascend below the binding count, and past them stands 0. The head
-// comes from outside: nothing is computed from used before it is known to be small.
-pub fn well_formed(head: Head, table: &[u32]) -> bool
-    ensures { λ r. ⌜ r ≡ wellFormed head (now (table .entry)) ⌝ }
-{
-    if table.len() % 3 != 0 {
-        return false;
-    }
-    if table.len() > MOST_NUMBERS {
-        return false;
-    }
-    if head.bindings > MOST_BINDINGS {
-        return false;
-    }
-    if head.poisoned > 1 {
-        return false;
-    }
-    let used = head.used as usize;
-    if used > table.len() / 3 {
-        return false;
-    }
-    if ascends(table, used) {
-        if all_within(table, used, head.bindings) {
-            return zero_from(table, used * 3);
-        }
-    }
-    false
 }
 
 // Where a posting stands, or would: a search by halves.

@@ -21,9 +21,10 @@ use Rattle.booleans.proofs.Tests.{by-cases}
 use Rattle.laws.proofs.Flat.{well-formed-parts}
 use Rattle.table.specs.Holding.{Carries}
 use Rattle.table.proofs.Keeping.{carries-postings}
-use Rattle.steps.specs.declared.Back.{Back}
+use Rattle.steps_undo.specs.declared.Back.{Back}
 use Rattle.steps.specs.declared.Reached.{Reached}
-use Rattle.steps.specs.Leaving.{UndoneIn, StageIn}
+use Rattle.steps.specs.Leaving.{StageIn}
+use Rattle.steps_undo.specs.Leaving.{UndoneIn}
 use Rattle.rules.specs.declared.Done.{Done}
 
 -- the answer that was reached, with the head beside it

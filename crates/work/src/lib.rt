@@ -7,6 +7,8 @@ use rules::Answer;
 use rules::Done;
 use rules::Head;
 use steps::Reached;
+use steps_sources::remove_sources;
+use steps_sources::write_record;
 ghost use Prim.Native.Nat.{_≤_, _<_, _^_};
 ghost use mathlib.Core.Path.{_≡_};
 ghost use mathlib.Core.List.{[], reverse};
@@ -58,7 +60,7 @@ pub fn prepare(
     let inserted = steps::prepare(table, list, strip, head.used as usize);
     let answer = inserted.answer;
     if is_accepted(answer) {
-        steps::write_record(list, record);
+        write_record(list, record);
         return done(head, inserted);
     }
     done(head, inserted)
@@ -83,8 +85,8 @@ pub fn publish(
     let brought = steps::prepare(table, list, strip, head.used as usize);
     let answer = brought.answer;
     if is_accepted(answer) {
-        steps::write_record(list, record);
-        let cleared = steps::remove_sources(table, list, strip, answer, brought.used, brought.read);
+        write_record(list, record);
+        let cleared = remove_sources(table, list, strip, answer, brought.used, brought.read);
         return done(head, cleared);
     }
     done(head, brought)
@@ -101,7 +103,7 @@ pub fn rollback(head: Head, table: &mut [u32], list: &[u32], strip: &[u8], recor
         (undoing (now (strip .entry)) (reverse (recorded (changes (now (list .entry))) (now («record» .entry))))
         Verdict.Passes 0 (postings (head .used) (now (table .entry))))) ⌝ }
 {
-    let back = steps::rollback(table, list, strip, record, head.used as usize);
+    let back = steps_undo::rollback(table, list, strip, record, head.used as usize);
     let verdict = back.verdict;
     done(
         head,
@@ -121,7 +123,7 @@ pub fn remove(head: Head, table: &mut [u32], list: &[u32], strip: &[u8]) -> Done
         (removing (now (strip .entry)) (Answer.Accepted 0) (sources (changes (now (list .entry)))) 0
         (postings (head .used) (now (table .entry)))) ⌝ }
 {
-    let cleared = steps::remove_sources(
+    let cleared = remove_sources(
         table,
         list,
         strip,

@@ -1,6 +1,6 @@
 -- By what the undo said.
 use borrow.Author.Needs.{needs}
-use Rattle.steps.proofs.Undos.{undone-clean, undone-failed}
+use Rattle.steps.proofs.Insertions.{undone-clean, undone-failed}
 use Rattle.steps.proofs.not_inserted.Statement.{statement}
 use Rattle.steps.proofs.not_inserted.Tie as tie
 

@@ -8,7 +8,8 @@ use borrow.Author.Needs.{needs}
 use Rattle.rules.specs.Postings.{rowsUnder, counted}
 use Rattle.rules.specs.Table.{postings}
 use Rattle.rules.specs.declared.Posting.{Posting}
-use Rattle.table.proofs.Reading.{none-left, bucket-left, none-counted, one-most}
+use Rattle.table_postings.proofs.Reading.{none-left}
+use Rattle.table.proofs.Counting.{bucket-left, none-counted, one-most}
 use Rattle.table.proofs.count_postings.Statement.{statement}
 use Rattle.table.proofs.count_postings.Tie as tie
 

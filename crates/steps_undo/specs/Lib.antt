@@ -1,0 +1,2 @@
+-- What the contracts of `steps_undo` speak of.
+pub mod Leaving

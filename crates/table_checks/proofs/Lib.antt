@@ -1,0 +1,2 @@
+-- The laws of the table's checks.
+pub mod Walks

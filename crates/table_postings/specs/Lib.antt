@@ -1,0 +1,2 @@
+-- What the contracts of `table_postings` speak of.
+pub mod Stored
