@@ -1,7 +1,5 @@
 # For scripts of this folder, on a machine that is not x86-64: how to compile, link and run an x86-64 program with what the kit has.
-machine=$(uname -m)
-kit=${RATTLE_HOME:-$(dirname "$(dirname "$(readlink -f "$(command -v rt)")")")}
-toolchain=$kit/on/$machine/toolchain
+. tools/kit.sh
 emulator=$toolchain/bin/qemu-x86_64
 loader=$toolchain/lib/ld-linux-x86-64.so.2
 

@@ -33,18 +33,46 @@ pub fn tell(answer: Answer) -> Told
 pub fn is_accepted(answer: Answer) -> bool
     ensures { λ r. ⌜ r ≡ isAccepted answer ⌝ }
 {
-    tell(answer).answer == 0
+    match answer {
+        Answer::Accepted(_) => true,
+        Answer::Table => false,
+        Answer::Poisoned => false,
+        Answer::List => false,
+        Answer::Strip => false,
+        Answer::Room => false,
+        Answer::Guard(_) => false,
+        Answer::Twice(_, _) => false,
+        Answer::Present(_) => false,
+        Answer::Overlap(_) => false,
+        Answer::Store(_) => false,
+        Answer::Full(_) => false,
+        Answer::Undo(_) => false,
+        Answer::Source(_) => false,
+        Answer::Record(_) => false,
+    }
 }
 
 // 12 or 13: a removal failed, and the poison flag is set.
 pub fn sets_poison(answer: Answer) -> bool
     ensures { λ r. ⌜ r ≡ poisons answer ⌝ }
 {
-    let number = tell(answer).answer;
-    if number == 12 {
-        return true;
+    match answer {
+        Answer::Accepted(_) => false,
+        Answer::Table => false,
+        Answer::Poisoned => false,
+        Answer::List => false,
+        Answer::Strip => false,
+        Answer::Room => false,
+        Answer::Guard(_) => false,
+        Answer::Twice(_, _) => false,
+        Answer::Present(_) => false,
+        Answer::Overlap(_) => false,
+        Answer::Store(_) => false,
+        Answer::Full(_) => false,
+        Answer::Undo(_) => true,
+        Answer::Source(_) => true,
+        Answer::Record(_) => false,
     }
-    number == 13
 }
 
 // The poison flag after an answer.

@@ -9,9 +9,8 @@ use lib.Seq.{getD-drop, drop-drop}
 use lib.Dec.{leb}
 use borrow.Author.Tests.{le-leb, lt-leb, eq-eqb, ne-eqb}
 use Rattle.rules.specs.Limits.{mostChanges, mostGuards}
-use Rattle.rules.specs.Orders.{properKey, changes, properChanges, properGuards}
+use Rattle.rules.specs.Orders.{properKey, changes, properChanges, properGuards, properLists}
 use Rattle.checks.specs.Keys.{properAt}
-use Rattle.checks.specs.Guarding.{properBeside}
 use Rattle.checks.proofs.Guards.{guards-length}
 
 proper-front :
@@ -58,11 +57,14 @@ unfolding properGuards
 guards-even gs e = rw (eq-eqb (length gs % 2) 0 e, guards-length gs)
 
 module _ (cs : List ℕ) where
-  pub lists-over : (paired : Bool) → mostChanges < length (changes cs) → properBeside cs paired ≡ false
+  pub lists-over : (paired : Bool) → mostChanges < length (changes cs) → properLists cs paired ≡ false
+  unfolding properLists
   lists-over paired h = rw (lt-leb (length (changes cs)) mostChanges h, and-false)
 
-  pub lists-unpaired : properBeside cs false ≡ false
+  pub lists-unpaired : properLists cs false ≡ false
+  unfolding properLists
   lists-unpaired = and-false (properChanges cs && leb (length (changes cs)) mostChanges)
 
-  pub lists-within : length (changes cs) ≤ mostChanges → properBeside cs true ≡ properChanges cs
+  pub lists-within : length (changes cs) ≤ mostChanges → properLists cs true ≡ properChanges cs
+  unfolding properLists
   lists-within m = rw (le-leb (length (changes cs)) mostChanges m) (simp and-true)

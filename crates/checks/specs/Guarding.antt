@@ -1,21 +1,13 @@
--- Checks 3 and 6 where the guards have been looked at before: what is known of them is whether they are proper, and the first
--- change that they do not hold.
+-- Check 6 where the guards have been looked at before: what is known of them is the first change that they do not hold.
 use Prim.Native.Nat.{ℕ, _+_}
 use mathlib.Core.List.{List, [], _∷_}
 use mathlib.Core.Bool.{Bool, not, cond, _&&_}
-use lib.ListN.{length}
-use lib.Dec.{eqb, ltb, leb}
+use lib.Dec.{eqb, ltb}
 use Rattle.rules.specs.declared.Change.{Change}
 use Rattle.rules.specs.declared.Guard.{Guard}
 use Rattle.rules.specs.declared.Answer.{Answer}
 use Rattle.rules.specs.declared.Verdict.{Verdict}
-use Rattle.rules.specs.Limits.{mostChanges}
-use Rattle.rules.specs.Orders.{changes, properChanges}
 use Rattle.rules.specs.Checks.{must, orElse, keyHeld}
-
--- a well-formed change list, not over its limit, beside guards that are proper or not
-abbrev pub properBeside : List ℕ → Bool → Bool
-properBeside cs paired = properChanges cs && leb (length (changes cs)) mostChanges && paired
 
 -- every named key of a change is held
 abbrev pub keysHeld : List Guard → Change → Bool

@@ -16,11 +16,11 @@ ghost use lib.ListN.{length, take};
 ghost use lib.Dec.{eqb, ltb};
 ghost use Rattle.rules.specs.declared.Answer.{Answer};
 ghost use Rattle.rules.specs.Limits.{mostChanges};
-ghost use Rattle.rules.specs.Orders.{properKey, properChanges, properGuards, guards, changes, held, destinationOf};
-ghost use Rattle.rules.specs.Checks.{firstFailing, keyHeld, guarded, isNamed, recordable, recordFrom};
+ghost use Rattle.rules.specs.Orders.{properKey, properChanges, properGuards, properLists, guards, changes, held, destinationOf};
+ghost use Rattle.rules.specs.Checks.{keyHeld, guarded, guardCheck, isNamed, recordable, recordCheck};
 ghost use Rattle.lent_lists.specs.Among.{among};
 ghost use Rattle.checks.specs.Keys.{properAt};
-ghost use Rattle.checks.specs.Guarding.{properBeside, bindingsFrom};
+ghost use Rattle.checks.specs.Guarding.{bindingsFrom};
 
 // The limits that the code tests: the rules' own numbers.
 pub const MOST_CHANGES: usize = 256;
@@ -78,7 +78,7 @@ pub fn proper_guards(pairs: &[u32]) -> bool
 
 // 3 LIST passes, beside guards that are proper or not. Lengths come first, so that a list of any length is judged at once.
 pub fn proper_lists(list: &[u32], paired: bool) -> bool
-    ensures { λ r. ⌜ r ≡ properBeside (now (list .entry)) paired ⌝ }
+    ensures { λ r. ⌜ r ≡ properLists (now (list .entry)) paired ⌝ }
 {
     if count_of(list) > MOST_CHANGES {
         return false;
@@ -131,8 +131,7 @@ fn is_guarded(bindings: u32, pairs: &[u32], change: Change) -> bool
 // 6 GUARD: the first change that is not guarded.
 pub fn check_guards(bindings: u32, list: &[u32], pairs: &[u32]) -> Verdict
     requires { ⌜ length (changes (now list)) ≤ mostChanges ⌝ }
-    ensures { λ r. ⌜ r ≡ firstFailing (guarded bindings (guards (now (pairs .entry)))) (λ i change. Answer.Guard i) 0
-        (changes (now (list .entry))) ⌝ }
+    ensures { λ r. ⌜ r ≡ guardCheck bindings (guards (now (pairs .entry))) (changes (now (list .entry))) ⌝ }
 {
     let n = count_of(list);
     let mut i = 0;
@@ -214,7 +213,7 @@ fn stands_earlier(record: &[u32], place: usize, number: u32) -> bool
 // longer than the change list without such a place among its first, so places fit a u32.
 pub fn check_record(list: &[u32], record: &[u32]) -> Verdict
     requires { ⌜ length (changes (now list)) ≤ mostChanges ⌝ }
-    ensures { λ r. ⌜ r ≡ recordFrom 0 (changes (now (list .entry))) [] (now («record» .entry)) ⌝ }
+    ensures { λ r. ⌜ r ≡ recordCheck (changes (now (list .entry))) (now («record» .entry)) ⌝ }
 {
     let mut place = 0;
     while place < record.len() {

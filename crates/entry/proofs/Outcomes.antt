@@ -10,7 +10,7 @@ use Rattle.rules.specs.declared.Head.{Head}
 use Rattle.rules.specs.Orders.{lending}
 use Rattle.rules.specs.declared.Done.{Done}
 use Rattle.publish.proofs.Outcomes.{OneOutcome, publish-one-outcome}
-use Rattle.entry.specs.Asking.{flat}
+use Rattle.guarding.specs.Asking.{flat}
 use Rattle.entry.specs.Promises.{PoisonPromise, HeldPromise, EntryPromise}
 
 pub poison-one-outcome : (head h k : Head) → PoisonPromise head h → PoisonPromise head k → h ≡ k

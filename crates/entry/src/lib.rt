@@ -1,15 +1,13 @@
 // The final entries: the head is lent and set in place, and the held guards are a lent list of guards. They are thin over the
-// calls of `publish`, which take the head by value and know no list of guards; what they promise is said of its flat numbers.
+// by-value core that `publish` calls too, which knows no list of guards; what they promise is said of its flat numbers.
 // Any numbers may come in. The prover does not walk code over a reference to a struct, so `poison_indexes`, `held`, `key_held`,
-// `first_unheld` and `publish` are proved by hand; whatever decides anything is in small functions over plain values.
-mod guarding;
-
+// `first_unheld` and `publish` are proved by hand; whatever decides anything is in `guarding`, in small functions over plain values.
 use guarding::Wanted;
 use rules::Answer;
 use rules::Guard;
 use rules::Head;
 ghost use mathlib.Core.Path.{_≡_};
-ghost use Rattle.entry.specs.Asking.{wantedHeld, unheldPlace};
+ghost use Rattle.guarding.specs.Asking.{wantedHeld, unheldPlace};
 ghost use Rattle.entry.specs.Promises.{PoisonPromise, HeldPromise, EntryPromise};
 
 // Sets the poison flag in place: counts of these indexes are withheld from now on.
@@ -43,11 +41,12 @@ fn key_held(guards: &[Guard], wanted: Wanted) -> bool
     true
 }
 
-// The first place, two to a change, whose key is named and not held; or how many places there are.
-fn first_unheld(guards: &[Guard], list: &[u32]) -> usize
-    ensures { λ r. ⌜ r ≡ unheldPlace (now (guards .entry)) (now (list .entry)) ⌝ }
+// The first place, two to a change, whose key is named and not held; or how many places there are. Where the poison flag is set
+// none is asked for.
+fn first_unheld(poisoned: u32, guards: &[Guard], list: &[u32]) -> usize
+    ensures { λ r. ⌜ r ≡ unheldPlace poisoned (now (guards .entry)) (now (list .entry)) ⌝ }
 {
-    let n = guarding::keys_asked(list, guards.len());
+    let n = guarding::keys_asked(poisoned, list, guards.len());
     let mut place = 0;
     while place < n {
         let wanted = guarding::wanted_at(list, place);
@@ -60,7 +59,7 @@ fn first_unheld(guards: &[Guard], list: &[u32]) -> usize
     n
 }
 
-// Publish: `used` is written into the lent head, and where a removal failed the poison flag is set there.
+// Publish: the head is stored in place as a whole, and where a removal failed the poison flag is set there.
 pub fn publish(
     head: &mut Head,
     table: &mut [u32],
@@ -72,7 +71,7 @@ pub fn publish(
     ensures { λ r. ⌜ EntryPromise (now (head .entry)) (now (table .entry)) (now (changes .entry)) (now (guards .entry))
         (now (strip .entry)) (now («record» .entry)) r (now (head .exit)) (now (table .exit)) (now («record» .exit)) ⌝ }
 {
-    let unheld = first_unheld(guards, changes);
+    let unheld = first_unheld(head.poisoned, guards, changes);
     let done = guarding::publish_by_value(
         *head,
         table,
@@ -82,7 +81,7 @@ pub fn publish(
         strip,
         record,
     );
-    head.used = done.head.used;
+    *head = done.head;
     if done.poisons {
         poison_indexes(head);
     }

@@ -15,11 +15,11 @@ use Rattle.rules.specs.declared.Done.{Done}
 use Rattle.rules.specs.Calls.{Outcome, countOf}
 use Rattle.laws.proofs.Answers.{told-injective}
 use Rattle.history.specs.History as claim
-use Rattle.history.specs.History.{Index, published, indexOf, after, outcomes, unbroken, accepted, acceptedOutcomes, said, ownCount, Holds}
+use Rattle.history.specs.History.{Index, published, indexOf, after, outcomes, unbroken, accepted, acceptedOutcomes, relentAll, said, ownCount, Holds}
 use Rattle.history.proofs.History.{after-append, right-or-withheld, empty-holds}
 use Rattle.publish.proofs.Outcomes.{seen-outcome}
 use Rattle.publish.specs.Promises.{PublishPromise}
-use Rattle.entry.specs.Asking.{flat}
+use Rattle.guarding.specs.Asking.{flat}
 use Rattle.entry.specs.Promises.{EntryPromise}
 use Rattle.guarantees.specs.Runs.{Made, outcome, left, Kept, Run, none, next, end, calls, seenAfter, taken, sound, CallsRight, CallsWithheld, CallsRightOrWithheld}
 
@@ -98,7 +98,8 @@ module _ (x : Index) (start : List Posting) (h : Holds x start) (ms : List Made)
             sym (run-end y more ry) ∙ (w .again y (calls more) hy al (rw a same) ∙ e);
         againRecords =
             λ y more hy al ry same.
-            sym (run-outcomes y more ry) ∙ (w .againRecords y (calls more) hy al (rw a same) ∙ run-accepted-outcomes x ms r);
+            sym (run-outcomes y more ry)
+            ∙ (w .againRecords y (calls more) hy al (rw a same) ∙ ap (relentAll (calls more)) (run-accepted-outcomes x ms r));
         replay =
             λ y ns hy al ry same.
             sym (run-end y ns ry) ∙ (rw (same, ← a) (w .replay y hy al) ∙ e);

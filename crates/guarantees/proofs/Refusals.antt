@@ -1,16 +1,17 @@
 -- Refusals, of the calls themselves: an answer of 1 to 11 or 14 leaves everything as before, a well-formed table stays well formed,
--- no answer touches binding count or size, and a well-formed table that is poisoned is refused with 2.
+-- no answer touches binding count or size, a well-formed table that is poisoned is refused with 2, and a table that is not well
+-- formed with 1.
 use Prim.Native.Nat.{ℕ}
 use mathlib.Core.Path.{_≡_, _∙_}
 use mathlib.Core.List.{List}
-use mathlib.Core.Bool.{true}
+use mathlib.Core.Bool.{true, false}
 use Rattle.rules.specs.declared.Answer.{Answer}
 use Rattle.rules.specs.declared.Head.{Head}
 use Rattle.rules.specs.Table.{wellFormed}
 use Rattle.rules.specs.Orders.{Call}
 use Rattle.rules.specs.declared.Done.{Done}
 use Rattle.rules.specs.Calls.{prepareOf, rollbackOf, removalOf, publishOf, countOf, outcomeOf}
-use Rattle.laws.specs.Words.{AsBefore, StaysWellFormed, Stable, RefusesPoisoned}
+use Rattle.laws.specs.Words.{AsBefore, StaysWellFormed, Stable, RefusesPoisoned, RefusesUnformed}
 use Rattle.laws.proofs.Answers.{told-injective}
 use Rattle.laws.proofs.Calls as law
 use Rattle.publish.specs.Promises.{PreparePromise, RollbackPromise, RemovalPromise, PublishPromise, CountPromise}
@@ -69,9 +70,29 @@ module _ (head : Head) (table : List ℕ) (c : Call) (r : Done) (t l : List ℕ)
   pub publish-poisoned : PublishPromise head table c r t l → RefusesPoisoned head table c (outcomeOf r t l)
   publish-poisoned k = of-result (RefusesPoisoned head table c) r t l (publishOf head table c) k (law.publish-poisoned head table c)
 
--- so is every count of it
+  -- a table that is not well formed is refused with 1, whatever its poison flag is, and nothing changes
+  pub prepare-unformed : PreparePromise head table c r t l → RefusesUnformed head table c (outcomeOf r t l)
+  prepare-unformed k = of-result (RefusesUnformed head table c) r t l (prepareOf head table c) k (law.prepare-unformed head table c)
+
+  pub rollback-unformed : RollbackPromise head table c r t l → RefusesUnformed head table c (outcomeOf r t l)
+  rollback-unformed k = of-result (RefusesUnformed head table c) r t l (rollbackOf head table c) k (law.rollback-unformed head table c)
+
+  pub removal-unformed : RemovalPromise head table c r t l → RefusesUnformed head table c (outcomeOf r t l)
+  removal-unformed k = of-result (RefusesUnformed head table c) r t l (removalOf head table c) k (law.removal-unformed head table c)
+
+  pub publish-unformed : PublishPromise head table c r t l → RefusesUnformed head table c (outcomeOf r t l)
+  publish-unformed k = of-result (RefusesUnformed head table c) r t l (publishOf head table c) k (law.publish-unformed head table c)
+
+-- every count of a poisoned table is refused with 2
 pub count-poisoned :
     (head : Head) (table : List ℕ) (binding key : ℕ) (a : Answer) → CountPromise head table binding key a →
     wellFormed head table ≡ true → head .poisoned ≡ 1 → a ≡ Answer.Poisoned
 count-poisoned head table binding key a k f p =
     told-injective a (countOf head table binding key) k ∙ law.count-poisoned head table f p binding key
+
+-- and of one that is not well formed with 1
+pub count-unformed :
+    (head : Head) (table : List ℕ) (binding key : ℕ) (a : Answer) → CountPromise head table binding key a →
+    wellFormed head table ≡ false → a ≡ Answer.Table
+count-unformed head table binding key a k f =
+    told-injective a (countOf head table binding key) k ∙ law.count-unformed head table f binding key

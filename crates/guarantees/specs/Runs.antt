@@ -10,7 +10,7 @@ use Rattle.rules.specs.Answers.{isAccepted, poisons}
 use Rattle.rules.specs.Orders.{Call}
 use Rattle.rules.specs.declared.Done.{Done}
 use Rattle.rules.specs.Calls.{Outcome, asBefore, outcomeOf}
-use Rattle.history.specs.History.{Index, postingsIn, said, saidOf, ownCount, holding, quiet, AllAgain, Holds, Alike, CountSaid}
+use Rattle.history.specs.History.{Index, postingsIn, said, saidOf, ownCount, holding, quiet, AllAgain, relentAll, Holds, Alike, CountSaid}
 use Rattle.publish.specs.Promises.{PublishPromise, CountPromise}
 
 -- a call of publish that was made: what it was lent, the result that it returned, and the table and record list as it left them
@@ -74,14 +74,15 @@ pub record CallsRight (x : Index) (start : List Posting) (ms : List Made) : Type
       (binding key : ℕ) →
       CountSaid start (calls (taken ms)) binding key (counted binding key (said (calls (taken ms)) start))
   -- the accepted calls made again with no storage failure, on a table of equal size and binding count that holds the same start,
-  -- leave the same table and head, and the same answers and records on the way, number for number
+  -- leave the same table and head; and on the way the same answers, heads and tables, with the same records at the front of whatever
+  -- lists were lent
   pub again :
       (y : Index) (more : List Made) → Holds y start → Alike x y → Run y more → AllAgain (calls (taken ms)) (calls more) →
       end y more ≡ end x ms
   pub againRecords :
       (y : Index) (more : List Made) → Holds y start → Alike x y → Run y more → AllAgain (calls (taken ms)) (calls more) →
-      seenAfter more ≡ seenAfter (taken ms)
-  -- so do they with empty strips
+      seenAfter more ≡ relentAll (calls more) (seenAfter (taken ms))
+  -- with empty strips and the record lists that were lent the first time, the same number for number
   pub replay :
       (y : Index) (ns : List Made) → Holds y start → Alike x y → Run y ns → calls ns ≡ map quiet (calls (taken ms)) →
       end y ns ≡ end x ms

@@ -18,11 +18,11 @@ use Rattle.rules.specs.Orders.{Numbered, Call}
 use Rattle.rules.specs.Answers.{settled, isAccepted}
 use Rattle.rules.specs.Checks.{countChecks, prepareChecks, rollbackChecks, removalChecks, publishChecks}
 use Rattle.rules.specs.Calls.{countOf, Outcome, prepared, prepareOf, rollbackOf, removalOf, publishOf}
-use Rattle.laws.specs.Words.{postingsBefore, added, takenAway, numberAt, Quiet, Noisy}
+use Rattle.laws.specs.Words.{postingsBefore, added, takenAway, numberAt, Quiet, Noisy, isRefusal}
 use Rattle.booleans.proofs.Tests.{impossible, clash}
 use Rattle.laws.proofs.Flat.{well-formed-parts, used-postings, postings-laid-out}
 use Rattle.laws.proofs.Answers.{refusal-unchanged, unchanged-accepts-not}
-use Rattle.laws.proofs.Checks.{isProper, publish-proper, refuses, Clear, prepare-clear, publish-clear}
+use Rattle.laws.proofs.Checks.{Says, publish-proper, Clear, prepare-clear, publish-clear}
 use Rattle.laws.proofs.Undo.{quiet-join, not-quiet}
 use Rattle.laws.proofs.Prepare.{Cause, TakenBack, LeftBehind}
 use Rattle.laws.proofs.Outcomes.{IsReady, IsStopped, going, leaving, recordedBack, stop-not-accepted, Published, published, Prepares, prepares, RollsBack, rolls-back, Removes, removes}
@@ -141,10 +141,10 @@ exactly v E f given h a = ((λ e. rw e at h), (λ k. answered-one v E f given a 
 
 -- an accepted answer is no check's
 accepted-passes :
-    (v : Verdict) (E : Answer → Type 0) → isProper v ≡ true → (a : Answer) → isAccepted a ≡ true → Answered v E a →
+    (v : Verdict) (E : Answer → Type 0) → Says isRefusal v → (a : Answer) → isAccepted a ≡ true → Answered v E a →
     (v ≡ Verdict.Passes) × E a
 accepted-passes v E p a h (Answered.refused e) =
-    absurd (clash (isAccepted a) h (unchanged-accepts-not a (refusal-unchanged a (refuses v a p e))))
+    absurd (clash (isAccepted a) h (unchanged-accepts-not a (refusal-unchanged a (p a e))))
 accepted-passes v E p a h (Answered.ended e k) = (e, k)
 
 module _ (head : Head) (table : List ℕ) (c : Call) where

@@ -20,14 +20,15 @@ use Rattle.rules.specs.declared.Verdict.{Verdict}
 use Rattle.rules.specs.Postings.{present}
 use Rattle.rules.specs.Table.{capacity}
 use Rattle.rules.specs.Orders.{Numbered, postingsOf, changeNumbers, Call}
-use Rattle.rules.specs.Answers.{toldOf, poisons, settled}
-use Rattle.rules.specs.Checks.{stripCheck, publishChecks, removalChecks, prepareChecks, rollbackChecks}
+use Rattle.rules.specs.Answers.{toldOf, refuses, poisons, settled}
+use Rattle.rules.specs.Checks.{lentOf, publishChecks, removalChecks, prepareChecks, rollbackChecks}
 use Rattle.rules.specs.Publication.{Stage, rolledBack}
 use Rattle.rules.specs.Calls.{Outcome, shown, prepared, prepareOf, rollbackOf, removalOf, publishOf}
-use Rattle.laws.specs.Words.{postingsBefore, added, takenAway, nowhere, numberAt, Quiet, isRefusal}
+use Rattle.laws.specs.Words.{postingsBefore, added, takenAway, nowhere, numberAt, Quiet, classOfNumber, isRefusal}
 use Rattle.booleans.proofs.Tests.{clash}
 use Rattle.laws.proofs.Flat.{well-formed-parts, used-postings, postings-laid-out}
-use Rattle.laws.proofs.Checks.{must-holds, first-passes, rest-passes, isProper, prepare-proper, rollback-proper, removal-proper, publish-proper, refuses, Clear, prepare-clear, publish-clear}
+use Rattle.laws.proofs.Answers.{class-by-number}
+use Rattle.laws.proofs.Checks.{Says, prepare-proper, rollback-proper, removal-proper, publish-proper, lent-proper, publish-passed, removal-passed, Clear, prepare-clear, publish-clear}
 use Rattle.laws.proofs.Prepare.{Cause, TakenBack, LeftBehind}
 use Rattle.laws.proofs.Sets.{present-added, present-taken-away, present-said}
 use Rattle.laws.proofs.Outcomes.{IsStopped, going, leaving, sourcesGone, undid, removedAlone, Published, published, Prepares, prepares, RollsBack, rolls-back, Removes, removes}
@@ -36,11 +37,12 @@ use Rattle.history.specs.Failures.{poisonedWith, goneAt, stuck, freed, S
 use Rattle.history.proofs.Acceptance.{stopped-fails, ready-quiet}
 use Rattle.history.proofs.Leftovers.{halts-leaves, undoing-leaves, prepare-stops, fresh-take, fresh-at, stuck-list, stuck-each, freed-each, freed-none}
 
--- no check refuses with a number that is neither 1 to 9 nor 14
+-- no check refuses with a number that tells another class
 not-refused :
-    {A : Type 0} (v : Verdict) (a : Answer) (n : ℕ) → isProper v ≡ true → v ≡ Verdict.Refused a → toldOf a .answer ≡ n →
-    ((leb 1 n && leb n 9) || eqb n 14) ≡ false → A
-not-refused v a n p e h k = absurd (clash (isRefusal a) (refuses v a p e) (rw h k))
+    {A : Type 0} (v : Verdict) (a : Answer) (n : ℕ) → Says isRefusal v → v ≡ Verdict.Refused a → toldOf a .answer ≡ n →
+    refuses (classOfNumber n) ≡ false → A
+not-refused v a n p e h k =
+    absurd (clash (isRefusal a) (p a e) (ap refuses (class-by-number a ∙ ap classOfNumber h) ∙ k))
 
 -- an insertion that failed says 10 or 11
 cause-below : (byte used size change : ℕ) (why : Answer) → Cause byte used size change why → toldOf why .answer < 12
@@ -49,19 +51,16 @@ cause-below byte used size change why (Cause.full h k) = omega arith
 
 module _ (head : Head) (table : List ℕ) (c : Call) where
   -- a strip that its check passes has no byte above 2
-  proper-bytes : stripCheck c ≡ Verdict.Passes → (i : ℕ) → byteAt (c .strip) i ≤ 2
-  unfolding stripCheck properStrip
+  proper-bytes : lentOf c ≡ Verdict.Passes → (i : ℕ) → byteAt (c .strip) i ≤ 2
+  unfolding properStrip
   proper-bytes h i =
-      byte-most (c .strip) i
-      (and-elim-right (leb (length (c .strip)) mostBytes) (properBytes (c .strip)) (must-holds (properStrip (c .strip)) Answer.Strip h))
+      byte-most (c .strip) i (and-elim-right (leb (length (c .strip)) mostBytes) (properBytes (c .strip)) (lent-proper _ _ _ h .1))
 
   publish-bytes : publishChecks head table c ≡ Verdict.Passes → (i : ℕ) → byteAt (c .strip) i ≤ 2
-  unfolding publishChecks
-  publish-bytes h = proper-bytes (first-passes _ _ (rest-passes _ _ (rest-passes _ _ (rest-passes _ _ h))))
+  publish-bytes h = proper-bytes (publish-passed head table c h .lent)
 
   removal-bytes : removalChecks head table c ≡ Verdict.Passes → (i : ℕ) → byteAt (c .strip) i ≤ 2
-  unfolding removalChecks
-  removal-bytes h = proper-bytes (first-passes _ _ (rest-passes _ _ (rest-passes _ _ (rest-passes _ _ h))))
+  removal-bytes h = proper-bytes (removal-passed head table c h .1)
 
   -- a stage that poisons, as it is shown
   shown-poisoned :

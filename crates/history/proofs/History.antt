@@ -5,30 +5,33 @@ use mathlib.Core.Path.{_≡_, refl, sym, ap, _∙_}
 use mathlib.Core.List.{List, [], _∷_, _++_, map}
 use mathlib.Core.Bool.{Bool, true, false, cond, not, _&&_}
 use mathlib.Mathlib.Data.Bool.Basic.{and-elim-left, and-elim-right}
-use lib.ListN.{length}
+use lib.ListN.{length, take, drop, length-map}
+use lib.Seq.{take-at}
 use lib.Dec.{ltb}
-use borrow.Author.Tests.{eq-eqb, not-true}
+use borrow.Author.Tests.{not-true}
 use Rattle.strips.specs.Strips.{properBytes, properStrip}
+use Rattle.lent_lists.specs.Written.{written}
 use Rattle.rules.specs.declared.Posting.{Posting}
 use Rattle.rules.specs.declared.Head.{Head}
 use Rattle.rules.specs.declared.Answer.{Answer}
 use Rattle.rules.specs.declared.Verdict.{Verdict}
 use Rattle.rules.specs.Postings.{ascending, present, rowsUnder, counted}
 use Rattle.rules.specs.Table.{postings, wellFormed}
-use Rattle.rules.specs.Orders.{destinations, sources, Call, changesOf}
+use Rattle.rules.specs.Orders.{Numbered, destinations, sources, changeNumbers, Call, lending, changesOf}
 use Rattle.rules.specs.Answers.{isAccepted, poisons, settled}
-use Rattle.rules.specs.Checks.{must, orElse, firstRefusal, tableCheck, poisonCheck, listCheck, stripCheck, roomCheck, guardCheck, twiceCheck, presentCheck, overlapCheck, publishChecks, countChecks}
+use Rattle.rules.specs.Checks.{must, orElse, firstRefusal, countChecks}
 use Rattle.rules.specs.Calls.{Outcome, headWith, asBefore, countOf}
 use Rattle.laws.specs.Words.{added, takenAway}
 use Rattle.booleans.proofs.Tests.{clash}
 use Rattle.laws.proofs.Flat.{well-formed-parts, used-postings, laid-out-same, postings-laid-out}
 use Rattle.laws.proofs.Answers.{Kind, kind}
-use Rattle.laws.proofs.Checks.{first-passes, rest-passes, cons-passes}
+use Rattle.laws.proofs.Checks.{open-passes, publish-clear, publish-relent}
 use Rattle.laws.proofs.Sets.{present-said}
+use Rattle.laws.proofs.Outcomes as outcome
 use Rattle.laws.proofs.Rows.{rows-among, rows-rising}
 use Rattle.laws.proofs.Calls.{publish-as-before, publish-well-formed, publish-stable, publish-poisoned, count-poisoned}
 use Rattle.history.specs.Acceptance.{Acceptable}
-use Rattle.history.specs.History.{Index, published, countedIn, postingsIn, indexOf, after, outcomes, unbroken, accepted, acceptedOutcomes, said, saidOf, ownCount, holding, quiet, Again, AllAgain, none, next, Holds, Alike, Right, Withheld, RightOrWithheld}
+use Rattle.history.specs.History.{Index, published, countedIn, postingsIn, indexOf, after, outcomes, unbroken, accepted, acceptedOutcomes, said, saidOf, ownCount, holding, quiet, Again, AllAgain, none, next, relent, relentAll, Holds, Alike, Right, Withheld, RightOrWithheld}
 use Rattle.history.proofs.Acceptance.{accepted-exactly, acceptable-outcome}
 
 -- well formed and unpoisoned: what every call but 12 and 13 leaves
@@ -144,53 +147,94 @@ said-set (c ∷ cs) ps p =
     said-set cs (takenAway (sources (changesOf c)) (added (destinations (changesOf c)) ps)) p
     ∙ ap (saidOf cs p) (present-said p (destinations (changesOf c)) (sources (changesOf c)) ps)
 
--- a call with another strip
-abbrev withStrip : Call → List ℕ → Call
-withStrip c strip = record { changeList = c .changeList; guardList = c .guardList; strip = strip; recordList = c .recordList }
+-- a call made again, by the lists of the first
+abbrev relending : Call → Call → Call
+relending c d = lending (c .changeList) (c .guardList) (d .strip) (d .recordList)
 
--- a proper strip passes its check
-strip-passes : (c : Call) (strip : List ℕ) → properStrip strip ≡ true → stripCheck (withStrip c strip) ≡ Verdict.Passes
-unfolding stripCheck
-strip-passes c strip h = rw h
+again-is : (c d : Call) → Again c d → d ≡ relending c d
+again-is c d a i =
+    record { changeList = a .changeList i; guardList = a .guardList i; strip = d .strip; recordList = d .recordList }
 
-strip-checks :
-    (head : Head) (table : List ℕ) (c : Call) (strip : List ℕ) → properStrip strip ≡ true → publishChecks head table c ≡ Verdict.Passes →
-    publishChecks head table (withStrip c strip) ≡ Verdict.Passes
-unfolding publishChecks listCheck roomCheck guardCheck twiceCheck presentCheck overlapCheck
-strip-checks head table c strip p h1 =
-    let h2 = rest-passes _ _ h1 in
-    let h3 = rest-passes _ _ h2 in
-    let h4 = rest-passes _ _ h3 in
-    let h5 = rest-passes _ _ h4 in
-    cons-passes _ _ (first-passes _ _ h1)
-    (cons-passes _ _ (first-passes _ _ h2) (cons-passes _ _ (first-passes _ _ h3) (cons-passes _ _ (strip-passes c strip p) h5)))
-
--- a call made again is the same call but for its strip
-again-is : (c d : Call) → Again c d → d ≡ withStrip c (d .strip)
-again-is c d a i = record { changeList = a .changeList i; guardList = a .guardList i; strip = d .strip; recordList = a .recordList i }
-
--- an acceptable call is so too with the strip with which it is made again
+-- an acceptable call is so too when it is made again
 again-acceptable :
-    (head : Head) (table : List ℕ) (c d : Call) → Again c d → Acceptable head table c → Acceptable head table (withStrip c (d .strip))
+    (head : Head) (table : List ℕ) (c d : Call) → Again c d → Acceptable head table c → Acceptable head table (relending c d)
 again-acceptable head table c d a k =
-    record { passes = strip-checks head table c (d .strip) (a .proper) (k .passes); room = k .room; quiet = a .quiet }
+    record {
+      passes = publish-relent head table c (d .strip) (d .recordList) (a .proper) (a .room) (k .passes);
+      room = k .room;
+      quiet = a .quiet;
+    }
 
--- an acceptable call made again on the same index answers and leaves the same
-pub again-same : (x : Index) (c d : Call) → Again c d → Acceptable (x .head) (x .table) c → published x d ≡ published x c
+-- the record that an acceptable call writes stands at the front of its list
+front-record :
+    (c : Call) (list : List ℕ) →
+    take (length (destinations (changesOf c))) (written (changeNumbers (destinations (changesOf c))) list) ≡ changeNumbers (destinations (changesOf c))
+front-record c list =
+    take-at (changeNumbers (destinations (changesOf c))) (drop (length (changeNumbers (destinations (changesOf c)))) list)
+    (length (destinations (changesOf c)))
+    (length-map (destinations (changesOf c)) (λ (d : Numbered). d .number))
+
+-- so on the same index it answers and leaves the same when it is made again, with the same record in the list that was lent now
+pub again-same : (x : Index) (c d : Call) → Again c d → Acceptable (x .head) (x .table) c → published x d ≡ relent d (published x c)
 again-same x c d a k =
+    let o = acceptable-outcome (x .head) (x .table) in
     ap (published x) (again-is c d a)
-    ∙ (acceptable-outcome (x .head) (x .table) (withStrip c (d .strip)) (again-acceptable (x .head) (x .table) c d a k)
-    ∙ sym (acceptable-outcome (x .head) (x .table) c k))
+    ∙ (o (relending c d) (again-acceptable (x .head) (x .table) c d a k) ∙ (anew ∙ ap (relent d) (sym (o c k))))
+  where
+    anew : outcome.accepted (x .head) (x .table) (relending c d) ≡ relent d (outcome.accepted (x .head) (x .table) c)
+    anew = rw (front-record c (c .recordList))
 
--- the empty strip is one of these
-quiet-again : (c : Call) → Again c (quiet c)
+-- lent its own list again, an acceptable call has the record there already
+own-record : (x : Index) (c : Call) → Acceptable (x .head) (x .table) c → relent (quiet c) (published x c) ≡ published x c
+own-record x c k = let o = acceptable-outcome (x .head) (x .table) c k in ap (relent (quiet c)) o ∙ (own ∙ sym o)
+  where
+    own : relent (quiet c) (outcome.accepted (x .head) (x .table) c) ≡ outcome.accepted (x .head) (x .table) c
+    own = rw (front-record c (c .recordList))
+
+-- the empty strip will do, with the list that was lent the first time: an acceptable call had room
+quiet-again : (head : Head) (table : List ℕ) (c : Call) → Acceptable head table c → Again c (quiet c)
 unfolding properStrip properBytes
-quiet-again c = record { changeList = refl; guardList = refl; recordList = refl; proper = refl; quiet = λ i h k. refl }
+quiet-again head table c k =
+    record {
+      changeList = refl;
+      guardList = refl;
+      room = publish-clear head table c (k .passes) .places;
+      proper = refl;
+      quiet = λ i h l. refl;
+    }
 
--- any calls with empty strips are those calls made again
-all-quiet : (cs : List Call) → AllAgain cs (map quiet cs)
-all-quiet [] = none
-all-quiet (c ∷ cs) = next (quiet-again c) (all-quiet cs)
+-- so the accepted calls of an unbroken history, with empty strips, are those calls made again
+all-quiet : (x : Index) (cs : List Call) → unbroken x cs ≡ true → AllAgain (accepted x cs) (map quiet (accepted x cs))
+unfolding accepted
+all-quiet x [] h = none
+all-quiet x (c ∷ cs) h = go (step x c) (all-quiet (indexOf (published x c)) cs (unbroken-rest x c cs h))
+  where
+    rest : List Call
+    rest = accepted (indexOf (published x c)) cs
+
+    go : Step x c → AllAgain rest (map quiet rest) → AllAgain (cond (isAccepted (published x c .answer)) (c ∷ rest) rest) (map quiet (cond (isAccepted (published x c .answer)) (c ∷ rest) rest))
+    go (stays e n p) ih = rw n ih
+    go (takes a n p) ih = rw n (next (quiet-again (x .head) (x .table) c a) ih)
+    go (breaks n p) ih = absurd (clash (poisons (published x c .answer)) p (unbroken-first x c cs h))
+
+-- and what they leave has their records already
+own-records : (x : Index) (cs : List Call) → unbroken x cs ≡ true → relentAll (map quiet (accepted x cs)) (acceptedOutcomes x cs) ≡ acceptedOutcomes x cs
+unfolding accepted acceptedOutcomes relentAll
+own-records x [] h = refl
+own-records x (c ∷ cs) h = go (step x c) (own-records (indexOf (published x c)) cs (unbroken-rest x c cs h))
+  where
+    rest : List Call
+    rest = accepted (indexOf (published x c)) cs
+
+    left : List Outcome
+    left = acceptedOutcomes (indexOf (published x c)) cs
+
+    go :
+        Step x c → relentAll (map quiet rest) left ≡ left →
+        relentAll (map quiet (cond (isAccepted (published x c .answer)) (c ∷ rest) rest)) (cond (isAccepted (published x c .answer)) (published x c ∷ left) left) ≡ cond (isAccepted (published x c .answer)) (published x c ∷ left) left
+    go (stays e n p) ih = rw n ih
+    go (takes a n p) ih = rw n (rw (own-record x c a, ih))
+    go (breaks n p) ih = absurd (clash (poisons (published x c .answer)) p (unbroken-first x c cs h))
 
 -- the accepted calls of an unbroken history, made again from the same index on, leave the same table and head
 pub again-after :
@@ -218,28 +262,32 @@ again-after x (c ∷ cs) ds h r = go (step x c) (λ es. again-after (indexOf (pu
     go (takes a n p) ih q = taken a ih ds (rw n at q)
     go (breaks n p) ih q = absurd (clash (poisons (published x c .answer)) p (unbroken-first x c cs h))
 
--- and each of them answers and leaves what it did the first time
+-- and each of them answers and leaves what it did the first time, with its record in the list that was lent now
 pub again-outcomes :
-    (x : Index) (cs ds : List Call) → unbroken x cs ≡ true → AllAgain (accepted x cs) ds → outcomes x ds ≡ acceptedOutcomes x cs
-unfolding outcomes accepted acceptedOutcomes
+    (x : Index) (cs ds : List Call) → unbroken x cs ≡ true → AllAgain (accepted x cs) ds →
+    outcomes x ds ≡ relentAll ds (acceptedOutcomes x cs)
+unfolding outcomes accepted acceptedOutcomes relentAll
 again-outcomes x [] ds h r = ends ds r
   where
-    ends : (ds : List Call) → AllAgain [] ds → outcomes x ds ≡ []
+    ends : (ds : List Call) → AllAgain [] ds → outcomes x ds ≡ relentAll ds []
     ends [] none = refl
 again-outcomes x (c ∷ cs) ds h r = go (step x c) (λ es. again-outcomes (indexOf (published x c)) cs es (unbroken-rest x c cs h)) r
   where
+    left : List Outcome
+    left = acceptedOutcomes (indexOf (published x c)) cs
+
     Again-on : Type 0
-    Again-on = (es : List Call) → AllAgain (accepted (indexOf (published x c)) cs) es → outcomes (indexOf (published x c)) es ≡ acceptedOutcomes (indexOf (published x c)) cs
+    Again-on = (es : List Call) → AllAgain (accepted (indexOf (published x c)) cs) es → outcomes (indexOf (published x c)) es ≡ relentAll es left
 
     taken :
         Acceptable (x .head) (x .table) c → Again-on → (es : List Call) → AllAgain (c ∷ accepted (indexOf (published x c)) cs) es →
-        outcomes x es ≡ published x c ∷ acceptedOutcomes (indexOf (published x c)) cs
-    taken k ih (d ∷ es) (next a q) = rw (again-same x c d a k) (ap (λ l. published x c ∷ l) (ih es q))
+        outcomes x es ≡ relentAll es (published x c ∷ left)
+    taken k ih (d ∷ es) (next a q) = rw (again-same x c d a k) (ap (λ l. relent d (published x c) ∷ l) (ih es q))
 
     go :
         Step x c → Again-on →
         AllAgain (cond (isAccepted (published x c .answer)) (c ∷ accepted (indexOf (published x c)) cs) (accepted (indexOf (published x c)) cs)) ds →
-        outcomes x ds ≡ cond (isAccepted (published x c .answer)) (published x c ∷ acceptedOutcomes (indexOf (published x c)) cs) (acceptedOutcomes (indexOf (published x c)) cs)
+        outcomes x ds ≡ relentAll ds (cond (isAccepted (published x c .answer)) (published x c ∷ left) left)
     go (stays e n p) ih q = rw n (ap (λ (y : Index). outcomes y ds) (sym e) ∙ ih ds (rw n at q))
     go (takes a n p) ih q = rw n (taken a ih ds (rw n at q))
     go (breaks n p) ih q = absurd (clash (poisons (published x c .answer)) p (unbroken-first x c cs h))
@@ -247,9 +295,9 @@ again-outcomes x (c ∷ cs) ds h r = go (step x c) (λ es. again-outcomes (index
 -- a count on a live index is its own number
 pub live-count :
     (x : Index) → Live x → (binding key : ℕ) → countedIn x binding key ≡ ownCount x (postingsIn x) binding key
-unfolding countOf countChecks firstRefusal tableCheck poisonCheck
+unfolding countOf countChecks firstRefusal
 live-count x l binding key =
-    rw (l .formed, eq-eqb (x .head .poisoned) 0 (l .healthy)) (go (ltb binding (x .head .bindings)))
+    rw (open-passes (x .head) (x .table) (l .formed) (l .healthy)) (go (ltb binding (x .head .bindings)))
   where
     given : Answer
     given = Answer.Accepted (counted binding key (postingsIn x))
@@ -378,7 +426,7 @@ module _ (x : Index) (start : List Posting) (e : Holds x start) where
 
   again-records :
       (cs : List Call) → unbroken x cs ≡ true → (y : Index) (ds : List Call) → Holds y start → Alike x y → AllAgain (accepted x cs) ds →
-      outcomes y ds ≡ acceptedOutcomes x cs
+      outcomes y ds ≡ relentAll ds (acceptedOutcomes x cs)
   again-records cs h y ds ey a r = rw (holds-one x y start e ey a) (again-outcomes x cs ds h r)
 
   right-until : (cs : List Call) → unbroken x cs ≡ true → Right x start cs
@@ -399,8 +447,8 @@ module _ (x : Index) (start : List Posting) (e : Holds x start) where
             };
         again = again-now cs h;
         againRecords = again-records cs h;
-        replay = λ y ey a. again-now cs h y (map quiet (accepted x cs)) ey a (all-quiet (accepted x cs));
-        records = λ y ey a. again-records cs h y (map quiet (accepted x cs)) ey a (all-quiet (accepted x cs));
+        replay = λ y ey a. again-now cs h y (map quiet (accepted x cs)) ey a (all-quiet x cs h);
+        records = λ y ey a. again-records cs h y (map quiet (accepted x cs)) ey a (all-quiet x cs h) ∙ own-records x cs h;
       }
 
   withheld-after : (cs : List Call) → unbroken x cs ≡ false → Withheld x start cs

@@ -7,7 +7,6 @@ use mathlib.Core.List.{List, reverse}
 use mathlib.Core.Bool.{true, cond}
 use lib.ListN.{length, take, drop, length-map, length-reverse}
 use lib.Seq.{take-at}
-use borrow.Author.Tests.{eq-eqb}
 use Rattle.strips.specs.Strips.{properStrip}
 use Rattle.rules.specs.declared.Head.{Head}
 use Rattle.rules.specs.declared.Answer.{Answer}
@@ -15,13 +14,13 @@ use Rattle.rules.specs.declared.Verdict.{Verdict}
 use Rattle.rules.specs.Table.{postings, laidOut}
 use Rattle.rules.specs.Orders.{Numbered, destinations, changeNumbers, recorded, Call, changesOf}
 use Rattle.rules.specs.Answers.{isAccepted, poisons, settled}
-use Rattle.rules.specs.Checks.{tableCheck, poisonCheck, listCheck, stripCheck, guardCheck, recordCheck, prepareChecks, rollbackChecks}
+use Rattle.rules.specs.Checks.{recordCheck, openingChecks, prepareChecks, rollbackChecks}
 use Rattle.rules.specs.Publication.{Stage, rolledBack}
 use Rattle.rules.specs.Calls.{Outcome, asBefore, shown, prepareOf, rollbackOf}
 use Rattle.laws.specs.Words.{postingsBefore, takenAway, Quiet}
 use Rattle.booleans.proofs.Tests.{impossible}
 use Rattle.laws.proofs.Flat.{well-formed-parts, used-postings, laid-out-same}
-use Rattle.laws.proofs.Checks.{first-passes, rest-passes, cons-passes, none-left, Clear, prepare-clear}
+use Rattle.laws.proofs.Checks.{open-passes, lent-proper, lent-passes, prepare-passed, rollback-passes, Clear, prepare-clear}
 use Rattle.laws.proofs.Calls.{prepare-well-formed, prepare-stable}
 use Rattle.laws.proofs.Records.{recorded-numbers, record-taken, added-back}
 use Rattle.laws.proofs.Outcomes.{RollsBack, rolls-back, undid, recordedBack}
@@ -46,44 +45,22 @@ module _ (head : Head) (table : List ℕ) (c : Call) (strip : List ℕ) (ok : is
   healthy : prepareOf head table c .head .poisoned ≡ head .poisoned
   healthy = prepare-stable head table c .flag ∙ rw (well .named)
 
-  record-passes : recordCheck (backOf c (prepareOf head table c) strip) ≡ Verdict.Passes
+  record-takes : recordCheck (changesOf c) (backOf c (prepareOf head table c) strip .recordList) ≡ Verdict.Passes
   unfolding recordCheck
-  record-passes = rw part-record (record-taken (changesOf c))
+  record-takes = rw part-record (record-taken (changesOf c))
 
-  table-passes : tableCheck (prepareOf head table c .head) (prepareOf head table c .table) ≡ Verdict.Passes
-  unfolding tableCheck
-  table-passes = rw (prepare-well-formed head table c (clear .formed))
+  opens : openingChecks (prepareOf head table c .head) (prepareOf head table c .table) ≡ Verdict.Passes
+  opens = open-passes _ _ (prepare-well-formed head table c (clear .formed)) (healthy ∙ clear .healthy)
 
-  poison-passes : poisonCheck (prepareOf head table c .head) ≡ Verdict.Passes
-  unfolding poisonCheck
-  poison-passes = rw (eq-eqb (prepareOf head table c .head .poisoned) 0 (healthy ∙ clear .healthy))
-
-  list-passes : listCheck c ≡ Verdict.Passes → listCheck (backOf c (prepareOf head table c) strip) ≡ Verdict.Passes
-  unfolding listCheck
-  list-passes h = h
-
-  strip-passes : properStrip strip ≡ true → stripCheck (backOf c (prepareOf head table c) strip) ≡ Verdict.Passes
-  unfolding stripCheck
-  strip-passes h = rw h
-
-  guard-passes :
-      guardCheck head c ≡ Verdict.Passes →
-      guardCheck (prepareOf head table c .head) (backOf c (prepareOf head table c) strip) ≡ Verdict.Passes
-  unfolding guardCheck
-  guard-passes h = rw (prepare-stable head table c .bindings) h
-
+  -- the checks of the prepare that rollback has too passed then, and pass now
   checks-pass :
       properStrip strip ≡ true → prepareChecks head table c ≡ Verdict.Passes →
       rollbackChecks (prepareOf head table c .head) (prepareOf head table c .table) (backOf c (prepareOf head table c) strip) ≡ Verdict.Passes
-  unfolding prepareChecks rollbackChecks
-  checks-pass s h1 =
-      let h3 = rest-passes _ _ (rest-passes _ _ h1) in
-      let h6 = rest-passes _ _ (rest-passes _ _ (rest-passes _ _ h3)) in
-      cons-passes _ _ table-passes
-      (cons-passes _ _ poison-passes
-      (cons-passes _ _ (list-passes (first-passes _ _ h3))
-      (cons-passes _ _ (strip-passes s)
-      (cons-passes _ _ (guard-passes (first-passes _ _ h6)) (cons-passes _ _ record-passes none-left)))))
+  checks-pass s h =
+      let p = prepare-passed head table c h in
+      rollback-passes _ _ _ opens (lent-passes _ _ _ (lent-proper _ _ _ (p .lent) .0) s)
+      (rw (prepare-stable head table c .bindings) (p .guarding))
+      record-takes
 
   -- what the rollback undoes, and what that leaves
   undoes : recordedBack (backOf c (prepareOf head table c) strip) ≡ reverse (destinations (changesOf c))

@@ -27,7 +27,7 @@ use Rattle.laws.proofs.Steps.{removed-only-same}
 use Rattle.laws.proofs.Undo.{undo-removes}
 use Rattle.laws.proofs.Prepare.{prepare-inside}
 use Rattle.laws.proofs.Remove.{remove-removes}
-use Rattle.laws.proofs.Checks.{isProper, prepare-proper, rollback-proper, removal-proper, refuses, first-passes, rest-passes}
+use Rattle.laws.proofs.Checks.{Says, prepare-proper, rollback-proper, removal-proper, arriving-parts, prepare-passed, rollback-passed, removal-passed}
 use Rattle.laws.proofs.Names.{guard-passes, twice-passes, present-passes, record-passes}
 use Rattle.laws.proofs.Calls.{prepare-as-before, rollback-as-before, removal-as-before, prepare-stable, rollback-stable, removal-stable}
 use Rattle.laws.proofs.Records.{recorded-numbers, rising-numbers, among-numbers, record-taken, present-reverse}
@@ -81,17 +81,17 @@ module _ (head : Head) (table : List ℕ) (c : Call) where
   unless-left P (Verdict.Refused a) list s h k = h
 
   refused-not :
-      {A : Type 0} (v : Verdict) (o : Outcome) (a : Answer) → isProper v ≡ true → v ≡ Verdict.Refused a →
+      {A : Type 0} (v : Verdict) (o : Outcome) (a : Answer) → Says isRefusal v → v ≡ Verdict.Refused a →
       o ≡ asBefore head table (c .recordList) a → isAccepted (o .answer) ≡ true → A
   refused-not v o a p e k h =
-      absurd (clash (isAccepted a) (rw k at h) (unchanged-accepts-not a (refusal-unchanged a (refuses v a p e))))
+      absurd (clash (isAccepted a) (rw k at h) (unchanged-accepts-not a (refusal-unchanged a (p a e))))
 
   -- a call that no check refused has passed them all
-  unless-passes :
-      (v : Verdict) (o : Outcome) → isProper v ≡ true →
+  pub unless-passes :
+      (v : Verdict) (o : Outcome) → Says isRefusal v →
       isRefusal (unlessRefused v (asBefore head table (c .recordList)) o .answer) ≡ false → v ≡ Verdict.Passes
   unless-passes Verdict.Passes o p h = refl
-  unless-passes (Verdict.Refused a) o p h = absurd (clash (isRefusal a) p h)
+  unless-passes (Verdict.Refused a) o p h = absurd (clash (isRefusal a) (p a refl) h)
 
   rollback-passes : isRefusal (rollbackOf head table c .answer) ≡ false → rollbackChecks head table c ≡ Verdict.Passes
   unfolding rollbackOf
@@ -173,10 +173,9 @@ module _ (head : Head) (table : List ℕ) (c : Call) where
           }
 
   rollback-valid : rollbackChecks head table c ≡ Verdict.Passes → Valid head table c × ValidIndices head table c
-  unfolding rollbackChecks
-  rollback-valid h1 =
-      let h5 = rest-passes _ _ (rest-passes _ _ (rest-passes _ _ (rest-passes _ _ h1))) in
-      (guard-passes head c (first-passes _ _ h5), record-passes c (first-passes _ _ (rest-passes _ _ h5)))
+  rollback-valid h =
+      let p = rollback-passed head table c h in
+      (guard-passes _ _ _ (p .2), record-passes _ _ (p .3))
 
   pub rollback-clauses : RollbackClauses head table c (rollbackOf head table c)
   rollback-clauses =
@@ -196,15 +195,10 @@ module _ (head : Head) (table : List ℕ) (c : Call) where
   -- prepare_index_destinations
   prepare-valid :
       prepareChecks head table c ≡ Verdict.Passes → Valid head table c × UniqueDestinations head table c × Disjoint head table c
-  unfolding prepareChecks
-  prepare-valid h1 =
-      let h6 = rest-passes _ _ (rest-passes _ _ (rest-passes _ _ (rest-passes _ _ (rest-passes _ _ h1)))) in
-      let h7 = rest-passes _ _ h6 in
-      let h8 = rest-passes _ _ h7 in (
-        guard-passes head c (first-passes _ _ h6),
-        twice-passes c (first-passes _ _ h7),
-        present-passes head table c (first-passes _ _ h8),
-      )
+  prepare-valid h =
+      let p = prepare-passed head table c h in
+      let a = arriving-parts _ _ (p .arriving) in
+      (guard-passes _ _ _ (p .guarding), twice-passes _ (a .0), present-passes _ _ (a .1))
 
   prepare-keeps :
       (p : Posting) → present p (postingsBefore head table) ≡ true → present p (postingsLeft (prepareOf head table c)) ≡ true
@@ -249,10 +243,7 @@ module _ (head : Head) (table : List ℕ) (c : Call) where
 
   -- remove_index_sources
   removal-valid : removalChecks head table c ≡ Verdict.Passes → Valid head table c
-  unfolding removalChecks
-  removal-valid h1 =
-      let h5 = rest-passes _ _ (rest-passes _ _ (rest-passes _ _ (rest-passes _ _ h1))) in
-      guard-passes head c (first-passes _ _ h5)
+  removal-valid h = guard-passes _ _ _ (removal-passed head table c h .2)
 
   removal-removes : RemovedOnly (postingsBefore head table) (postingsLeft (removalOf head table c)) (postingsOf (sources (changesOf c)))
   unfolding removalOf

@@ -1,10 +1,10 @@
 -- Right or withheld: what can be said of a table that only publish calls write. All words here are over the rules of one
 -- publish and one count; there is no second model.
-use Prim.Native.Nat.{ℕ, _+_}
+use Prim.Native.Nat.{ℕ, _+_, _≤_}
 use mathlib.Core.Path.{_≡_}
 use mathlib.Core.List.{List, [], _∷_, _++_, map}
 use mathlib.Core.Bool.{Bool, true, false, cond, not, _&&_, _||_}
-use lib.ListN.{length}
+use lib.ListN.{length, take}
 use lib.Dec.{ltb}
 use Rattle.strips.specs.Strips.{properStrip}
 use Rattle.rules.specs.declared.Posting.{Posting}
@@ -13,8 +13,9 @@ use Rattle.rules.specs.declared.Answer.{Answer}
 use Rattle.rules.specs.Postings.{present, counted}
 use Rattle.rules.specs.Table.{postings, laidOut, wellFormed}
 use Rattle.rules.specs.Orders.{destinations, sources, postingsOf, Call, changesOf}
-use Rattle.rules.specs.Answers.{isAccepted, poisons}
+use Rattle.rules.specs.Answers.{toldOf, isAccepted, poisons}
 use Rattle.lent_lists.specs.Among.{among}
+use Rattle.lent_lists.specs.Written.{written}
 use Rattle.rules.specs.Calls.{Outcome, asBefore, headWith, publishOf, countOf}
 use Rattle.laws.specs.Words.{added, takenAway, rising, Quiet}
 
@@ -93,12 +94,12 @@ holding x ps = record { head = headWith (x .head) (length ps) 0; table = laidOut
 abbrev pub quiet : Call → Call
 quiet c = record { changeList = c .changeList; guardList = c .guardList; strip = []; recordList = c .recordList }
 
--- a call made again with no storage failure: the same changes, guards and record list, and any proper strip of which every byte
--- that is read is 0
+-- a call made again with no storage failure: the same changes and guards, any proper strip of which every byte that is read is 0,
+-- and any record list with a place for each change
 pub record Again (c d : Call) : Type 0 where
   pub changeList : d .changeList ≡ c .changeList
   pub guardList : d .guardList ≡ c .guardList
-  pub recordList : d .recordList ≡ c .recordList
+  pub room : length (changesOf c) ≤ length (d .recordList)
   pub proper : properStrip (d .strip) ≡ true
   pub quiet : Quiet (d .strip) 0 (length (destinations (changesOf c)) + length (sources (changesOf c)))
 
@@ -106,6 +107,21 @@ pub record Again (c d : Call) : Type 0 where
 pub data AllAgain : List Call → List Call → Type 0 where
   none : AllAgain [] []
   next : {c d : Call} {cs ds : List Call} → Again c d → AllAgain cs ds → AllAgain (c ∷ cs) (d ∷ ds)
+
+-- the record that an accepted call wrote: as many numbers as it names, at the front of its list
+abbrev pub recordIn : Outcome → List ℕ
+recordIn o = take (toldOf (o .answer) .named) (o .recordList)
+
+-- the same outcome where another call lent the list: the same record stands at the front of that list, and its later places stay
+abbrev pub relent : Call → Outcome → Outcome
+relent d o =
+    record { answer = o .answer; head = o .head; table = o .table; recordList = written (recordIn o) (d .recordList) }
+
+-- outcomes, each so with the call at its place
+unfoldable pub relentAll : List Call → List Outcome → List Outcome
+relentAll [] os = []
+relentAll (d ∷ ds) [] = []
+relentAll (d ∷ ds) (o ∷ os) = relent d o ∷ relentAll ds os
 
 -- well formed, unpoisoned, and holding just these postings; with none, it is empty
 pub record Holds (x : Index) (start : List Posting) : Type 0 where
@@ -139,11 +155,13 @@ pub record Right (x : Index) (start : List Posting) (cs : List Call) : Type 0 wh
   -- and that is the number of rows that the accepted calls say
   pub rows : (binding key : ℕ) → CountSaid start (accepted x cs) binding key (counted binding key (said (accepted x cs) start))
   -- the accepted calls made again with no storage failure, on an index of equal size and binding count that holds the same start,
-  -- give the same table and head, and the same answers and records on the way, number for number
+  -- give the same table and head; and on the way the same answers, heads and tables, with the same record numbers at the front of
+  -- whatever list was lent
   pub again : (y : Index) (ds : List Call) → Holds y start → Alike x y → AllAgain (accepted x cs) ds → after y ds ≡ after x cs
   pub againRecords :
-      (y : Index) (ds : List Call) → Holds y start → Alike x y → AllAgain (accepted x cs) ds → outcomes y ds ≡ acceptedOutcomes x cs
-  -- so do they with empty strips
+      (y : Index) (ds : List Call) → Holds y start → Alike x y → AllAgain (accepted x cs) ds →
+      outcomes y ds ≡ relentAll ds (acceptedOutcomes x cs)
+  -- with empty strips and the record lists that were lent the first time, the same number for number
   pub replay : (y : Index) → Holds y start → Alike x y → after y (map quiet (accepted x cs)) ≡ after x cs
   pub records : (y : Index) → Holds y start → Alike x y → outcomes y (map quiet (accepted x cs)) ≡ acceptedOutcomes x cs
 

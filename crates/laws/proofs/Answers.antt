@@ -6,9 +6,8 @@ use mathlib.Core.Bool.{true, false}
 use lib.ListN.{getD}
 use Rattle.rules.specs.declared.Answer.{Answer}
 use Rattle.rules.specs.declared.Told.{Told}
-use Rattle.rules.specs.Answers.{toldOf, isAccepted, poisons}
-use Rattle.laws.specs.Words.{isRefusal, isUnchanged}
-use Rattle.booleans.proofs.Tests.{clash}
+use Rattle.rules.specs.Answers.{toldOf, Class, classOf, accepts, refuses, changesNothing, breaks, isAccepted, poisons}
+use Rattle.laws.specs.Words.{classOfNumber, isRefusal, isUnchanged}
 
 -- the answer back from its numbers
 answerOf : Told → Answer
@@ -55,6 +54,24 @@ answer-back (Answer.Record place) = refl
 pub told-injective : (a b : Answer) → toldOf a ≡ toldOf b → a ≡ b
 told-injective a b e = sym (answer-back a) ∙ (ap answerOf e ∙ answer-back b)
 
+-- and so does the number alone tell the class
+pub class-by-number : (a : Answer) → classOf a ≡ classOfNumber (toldOf a .answer)
+class-by-number (Answer.Accepted n) = refl
+class-by-number Answer.Table = refl
+class-by-number Answer.Poisoned = refl
+class-by-number Answer.List = refl
+class-by-number Answer.Strip = refl
+class-by-number Answer.Room = refl
+class-by-number (Answer.Guard i) = refl
+class-by-number (Answer.Twice i j) = refl
+class-by-number (Answer.Present i) = refl
+class-by-number (Answer.Overlap i) = refl
+class-by-number (Answer.Store i) = refl
+class-by-number (Answer.Full i) = refl
+class-by-number (Answer.Undo i) = refl
+class-by-number (Answer.Source i) = refl
+class-by-number (Answer.Record place) = refl
+
 -- accepted; refused or undone with all as before; poisoning
 pub data Kind : Answer → Type 0 where
   taken : (n : ℕ) → Kind (Answer.Accepted n)
@@ -78,35 +95,30 @@ kind (Answer.Undo i) = broken refl refl refl
 kind (Answer.Source i) = broken refl refl refl
 kind (Answer.Record place) = kept refl refl refl
 
+-- what a check refuses with changes nothing, is not accepted and breaks nothing: class by class
+unchanged-class : (k : Class) → refuses k ≡ true → changesNothing k ≡ true
+unchanged-class Class.accepted h = h
+unchanged-class Class.refused h = refl
+unchanged-class Class.undone h = refl
+unchanged-class Class.broken h = h
+
+accepted-not-class : (k : Class) → changesNothing k ≡ true → accepts k ≡ false
+accepted-not-class Class.accepted h = sym h
+accepted-not-class Class.refused h = refl
+accepted-not-class Class.undone h = refl
+accepted-not-class Class.broken h = refl
+
+broken-not-class : (k : Class) → changesNothing k ≡ true → breaks k ≡ false
+broken-not-class Class.accepted h = refl
+broken-not-class Class.refused h = refl
+broken-not-class Class.undone h = refl
+broken-not-class Class.broken h = sym h
+
 pub refusal-unchanged : (a : Answer) → isRefusal a ≡ true → isUnchanged a ≡ true
-refusal-unchanged (Answer.Accepted n) h = h
-refusal-unchanged Answer.Table h = refl
-refusal-unchanged Answer.Poisoned h = refl
-refusal-unchanged Answer.List h = refl
-refusal-unchanged Answer.Strip h = refl
-refusal-unchanged Answer.Room h = refl
-refusal-unchanged (Answer.Guard i) h = refl
-refusal-unchanged (Answer.Twice i j) h = refl
-refusal-unchanged (Answer.Present i) h = refl
-refusal-unchanged (Answer.Overlap i) h = refl
-refusal-unchanged (Answer.Store i) h = refl
-refusal-unchanged (Answer.Full i) h = refl
-refusal-unchanged (Answer.Undo i) h = h
-refusal-unchanged (Answer.Source i) h = h
-refusal-unchanged (Answer.Record place) h = refl
+refusal-unchanged a h = unchanged-class (classOf a) h
 
 pub unchanged-accepts-not : (a : Answer) → isUnchanged a ≡ true → isAccepted a ≡ false
-unchanged-accepts-not a h = go a h (kind a)
-  where
-    go : (b : Answer) → isUnchanged b ≡ true → Kind b → isAccepted b ≡ false
-    go b k (taken n) = absurd (clash false k refl)
-    go b k (kept x y z) = y
-    go b k (broken x y z) = y
+unchanged-accepts-not a h = accepted-not-class (classOf a) h
 
 pub unchanged-poisons-not : (a : Answer) → isUnchanged a ≡ true → poisons a ≡ false
-unchanged-poisons-not a h = go a h (kind a)
-  where
-    go : (b : Answer) → isUnchanged b ≡ true → Kind b → poisons b ≡ false
-    go b k (taken n) = absurd (clash false k refl)
-    go b k (kept x y z) = z
-    go b k (broken x y z) = absurd (clash (isUnchanged b) k x)
+unchanged-poisons-not a h = broken-not-class (classOf a) h

@@ -16,13 +16,13 @@ use Rattle.rules.specs.Checks.{prepareChecks, rollbackChecks, removalChecks, pu
 use Rattle.rules.specs.Orders.{Call}
 use Rattle.rules.specs.Publication.{Stage, rolledBack, thenSources}
 use Rattle.rules.specs.Calls.{Outcome, asBefore, unlessRefused, headAfter, shown, prepared, prepareOf, rollbackOf, removalOf, publishOf, countOf}
-use Rattle.laws.specs.Words.{postingsBefore, isUnchanged, Stable, AsBefore, StaysWellFormed, RefusesPoisoned}
+use Rattle.laws.specs.Words.{postingsBefore, isRefusal, isUnchanged, Stable, AsBefore, StaysWellFormed, RefusesPoisoned, RefusesUnformed}
 use Rattle.booleans.proofs.Tests.{by-cases, clash}
 use Rattle.laws.proofs.Flat.{well-formed-parts, Sound, sound-postings, well-formed-laid-out, length-laid-out}
 use Rattle.laws.proofs.Undo.{undo-sound}
 use Rattle.laws.proofs.Prepare.{prepare-sound}
 use Rattle.laws.proofs.Remove.{remove-sound}
-use Rattle.laws.proofs.Checks.{isProper, prepare-proper, rollback-proper, removal-proper, publish-proper, Clear, prepare-clear, publish-clear, rollback-formed, removal-formed, poisoned-first}
+use Rattle.laws.proofs.Checks.{Says, prepare-proper, rollback-proper, removal-proper, publish-proper, Clear, prepare-clear, publish-clear, rollback-formed, removal-formed, open-unformed, open-poisoned, prepare-opens, rollback-opens, removal-opens, publish-opens, count-opens}
 use Rattle.laws.proofs.Answers.{refusal-unchanged, unchanged-poisons-not}
 use Rattle.laws.proofs.Outcomes.{shown-same, IsStopped, cause-poisons-not, going, leaving, recordedBack, undid, removedAlone, Published, published, Prepares, prepares, RollsBack, rolls-back, Removes, removes}
 
@@ -147,11 +147,11 @@ module _ (head : Head) (table : List ℕ) (c : Call) where
 
   -- and binding count and size stay at every answer, and the poison flag at all but 12 and 13
   unless-stable :
-      (v : Verdict) (list : List ℕ) (s : Stage) → isProper v ≡ true →
+      (v : Verdict) (list : List ℕ) (s : Stage) → Says isRefusal v →
       (v ≡ Verdict.Passes → Sound (head .bindings) (capacity table) (s .postings)) →
       Stable head table (unlessRefused v (asBefore head table (c .recordList)) (shown head table list s))
   unless-stable (Verdict.Refused a) list s h f =
-      record { bindings = refl; flag = rw (unchanged-poisons-not a (refusal-unchanged a h)); size = refl }
+      record { bindings = refl; flag = rw (unchanged-poisons-not a (refusal-unchanged a (h a refl))); size = refl }
   unless-stable Verdict.Passes list s h f =
       record {
         bindings = refl;
@@ -179,24 +179,46 @@ module _ (head : Head) (table : List ℕ) (c : Call) where
 
   -- a poisoned table is refused with 2 by every call, and nothing changes
   pub prepare-poisoned : RefusesPoisoned head table c (prepareOf head table c)
-  unfolding prepareOf prepareChecks
-  prepare-poisoned h k = rw (poisoned-first head table _ h k)
+  unfolding prepareOf
+  prepare-poisoned h k = rw (prepare-opens head table _ (open-poisoned head table h k) c)
 
   pub rollback-poisoned : RefusesPoisoned head table c (rollbackOf head table c)
-  unfolding rollbackOf rollbackChecks
-  rollback-poisoned h k = rw (poisoned-first head table _ h k)
+  unfolding rollbackOf
+  rollback-poisoned h k = rw (rollback-opens head table _ (open-poisoned head table h k) c)
 
   pub removal-poisoned : RefusesPoisoned head table c (removalOf head table c)
-  unfolding removalOf removalChecks
-  removal-poisoned h k = rw (poisoned-first head table _ h k)
+  unfolding removalOf
+  removal-poisoned h k = rw (removal-opens head table _ (open-poisoned head table h k) c)
 
   pub publish-poisoned : RefusesPoisoned head table c (publishOf head table c)
-  unfolding publishOf publishChecks
-  publish-poisoned h k = rw (poisoned-first head table _ h k)
+  unfolding publishOf
+  publish-poisoned h k = rw (publish-opens head table _ (open-poisoned head table h k) c)
+
+  -- one that is not well formed is refused with 1, whatever its flag is
+  pub prepare-unformed : RefusesUnformed head table c (prepareOf head table c)
+  unfolding prepareOf
+  prepare-unformed h = rw (prepare-opens head table _ (open-unformed head table h) c)
+
+  pub rollback-unformed : RefusesUnformed head table c (rollbackOf head table c)
+  unfolding rollbackOf
+  rollback-unformed h = rw (rollback-opens head table _ (open-unformed head table h) c)
+
+  pub removal-unformed : RefusesUnformed head table c (removalOf head table c)
+  unfolding removalOf
+  removal-unformed h = rw (removal-opens head table _ (open-unformed head table h) c)
+
+  pub publish-unformed : RefusesUnformed head table c (publishOf head table c)
+  unfolding publishOf
+  publish-unformed h = rw (publish-opens head table _ (open-unformed head table h) c)
 
 pub count-poisoned :
     (head : Head) (table : List ℕ) → wellFormed head table ≡ true → head .poisoned ≡ 1 → (binding key : ℕ) →
     countOf head table binding key ≡ Answer.Poisoned
-unfolding countOf countChecks
-count-poisoned head table h k binding key =
-    rw (poisoned-first head table _ h k)
+unfolding countOf
+count-poisoned head table h k binding key = rw (count-opens head table _ (open-poisoned head table h k) binding)
+
+pub count-unformed :
+    (head : Head) (table : List ℕ) → wellFormed head table ≡ false → (binding key : ℕ) →
+    countOf head table binding key ≡ Answer.Table
+unfolding countOf
+count-unformed head table h binding key = rw (count-opens head table _ (open-unformed head table h) binding)

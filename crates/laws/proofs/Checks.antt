@@ -4,10 +4,10 @@ use native.Mathlib.Omega.{arith}
 use mathlib.Core.Path.{_≡_, refl, sym, _∙_}
 use mathlib.Core.List.{List, [], _∷_, _++_}
 use mathlib.Core.Bool.{Bool, true, false, not, _&&_, _||_, or-assoc}
-use mathlib.Mathlib.Data.Bool.Basic.{and-elim-left, and-intro}
+use mathlib.Mathlib.Data.Bool.Basic.{and-elim-left, and-elim-right, and-intro}
 use lib.ListN.{length}
 use lib.Dec.{eqb, ltb, leb}
-use borrow.Author.Tests.{ne-eqb, eqb-true, leb-true, not-true}
+use borrow.Author.Tests.{eq-eqb, ne-eqb, eqb-true, leb-true, le-leb, not-true}
 use Rattle.strips.specs.Strips.{properStrip}
 use Rattle.rules.specs.declared.Posting.{Posting}
 use Rattle.rules.specs.declared.Key.{Key}
@@ -16,10 +16,11 @@ use Rattle.rules.specs.declared.Guard.{Guard}
 use Rattle.rules.specs.declared.Head.{Head}
 use Rattle.rules.specs.declared.Answer.{Answer}
 use Rattle.rules.specs.declared.Verdict.{Verdict}
+use Rattle.rules.specs.Limits.{mostChanges}
 use Rattle.rules.specs.Postings.{every, same, present, inserted, bindingBelow}
 use Rattle.rules.specs.Table.{postings, wellFormed}
-use Rattle.rules.specs.Orders.{Numbered, named, destinationOf, destinationsFrom, destinations, sources, postingsOf, properLists, Call, changesOf}
-use Rattle.rules.specs.Checks.{must, orElse, firstRefusal, tableCheck, poisonCheck, listCheck, stripCheck, roomCheck, keyHeld, guarded, firstFailing, guardCheck, recordable, recordFrom, recordCheck, firstEqual, twiceFrom, twiceCheck, presentCheck, overlapCheck, prepareChecks, rollbackChecks, removalChecks, publishChecks}
+use Rattle.rules.specs.Orders.{Numbered, named, destinationOf, destinationsFrom, destinations, sources, postingsOf, changes, properChanges, properLists, Call, lending, changesOf}
+use Rattle.rules.specs.Checks.{must, orElse, firstRefusal, tableCheck, poisonCheck, listCheck, stripCheck, roomCheck, keyHeld, guarded, firstFailing, guardCheck, recordable, recordFrom, recordCheck, firstEqual, twiceFrom, twiceCheck, presentCheck, overlapCheck, openingChecks, lentChecks, arrivingChecks, leavingChecks, orderChecks, publishBeside, lentOf, guardingOf, prepareChecks, rollbackChecks, removalChecks, publishChecks, countChecks}
 use Rattle.lent_lists.specs.Among.{among}
 use Rattle.laws.specs.Words.{isRefusal}
 use Rattle.booleans.proofs.Tests.{impossible, neither, or-swap}
@@ -40,148 +41,164 @@ pub else-second : (v w : Verdict) → orElse v w ≡ Verdict.Passes → w ≡ Ve
 else-second Verdict.Passes w h = h
 else-second (Verdict.Refused a) w h = impossible (cc)
 
-pub first-passes : (v : Verdict) (vs : List Verdict) → firstRefusal (v ∷ vs) ≡ Verdict.Passes → v ≡ Verdict.Passes
+-- a property of each verdict of a list
+abbrev pub Each : (Verdict → Type 0) → List Verdict → Type 0
+Each P [] = Unit {0}
+Each P (v ∷ vs) = P v × Each P vs
+
+-- a list of verdicts passes exactly where each of them does
+pub passed : (vs : List Verdict) → firstRefusal vs ≡ Verdict.Passes → Each (λ v. v ≡ Verdict.Passes) vs
 unfolding firstRefusal
-first-passes v vs h = else-first v (firstRefusal vs) h
+passed [] h = tt
+passed (v ∷ vs) h = (else-first v (firstRefusal vs) h, passed vs (else-second v (firstRefusal vs) h))
 
-pub rest-passes : (v : Verdict) (vs : List Verdict) → firstRefusal (v ∷ vs) ≡ Verdict.Passes → firstRefusal vs ≡ Verdict.Passes
+pub all-pass : (vs : List Verdict) → Each (λ v. v ≡ Verdict.Passes) vs → firstRefusal vs ≡ Verdict.Passes
 unfolding firstRefusal
-rest-passes v vs h = else-second v (firstRefusal vs) h
+all-pass [] h = refl
+all-pass (v ∷ vs) h = rw (h .0, all-pass vs (h .1))
 
-pub none-left : firstRefusal [] ≡ Verdict.Passes
+-- a refusal that stands first is the whole list's
+pub first-refuses : (v : Verdict) (vs : List Verdict) (a : Answer) → v ≡ Verdict.Refused a → firstRefusal (v ∷ vs) ≡ Verdict.Refused a
 unfolding firstRefusal
-none-left = refl
+first-refuses v vs a h = rw h
 
-pub cons-passes :
-    (v : Verdict) (vs : List Verdict) → v ≡ Verdict.Passes → firstRefusal vs ≡ Verdict.Passes →
-    firstRefusal (v ∷ vs) ≡ Verdict.Passes
-unfolding firstRefusal
-cons-passes v vs h k = rw (h, k)
+-- whatever the verdict refuses with has the property
+abbrev pub Says : (Answer → Bool) → Verdict → Type 0
+Says P v = (a : Answer) → v ≡ Verdict.Refused a → P a ≡ true
 
--- a verdict that passes or refuses as a check does
-abbrev pub isProper : Verdict → Bool
-isProper Verdict.Passes = true
-isProper (Verdict.Refused a) = isRefusal a
+module _ (P : Answer → Bool) where
+  says-must : (b : Bool) (a : Answer) → P a ≡ true → Says P (must b a)
+  says-must true a h x e = impossible (cc)
+  says-must false a h x e = let k : x ≡ a = cc in rw k h
 
-proper-must : (b : Bool) (a : Answer) → isRefusal a ≡ true → isProper (must b a) ≡ true
-proper-must true a h = refl
-proper-must false a h = h
+  says-else : (v w : Verdict) → Says P v → Says P w → Says P (orElse v w)
+  says-else Verdict.Passes w f g = g
+  says-else (Verdict.Refused a) w f g = f
 
-proper-else : (v w : Verdict) → isProper v ≡ true → isProper w ≡ true → isProper (orElse v w) ≡ true
-proper-else Verdict.Passes w h k = k
-proper-else (Verdict.Refused a) w h k = h
+  says-first : (vs : List Verdict) → Each (Says P) vs → Says P (firstRefusal vs)
+  unfolding firstRefusal
+  says-first [] h = λ x e. impossible (cc)
+  says-first (v ∷ vs) h = says-else v (firstRefusal vs) (h .0) (says-first vs (h .1))
 
-proper-none : isProper (firstRefusal []) ≡ true
-unfolding firstRefusal
-proper-none = refl
+  says-failing :
+      {A : Type 0} (test : A → Bool) (answer : ℕ → A → Answer) (i : ℕ) (xs : List A) → ((k : ℕ) (x : A) → P (answer k x) ≡ true) →
+      Says P (firstFailing test answer i xs)
+  unfolding firstFailing
+  says-failing test answer i [] h = λ x e. impossible (cc)
+  says-failing test answer i (x ∷ xs) h =
+      says-else (must (test x) (answer i x)) (firstFailing test answer (i + 1) xs) (says-must (test x) (answer i x) (h i x))
+      (says-failing test answer (i + 1) xs h)
 
-proper-cons :
-    (v : Verdict) (vs : List Verdict) → isProper v ≡ true → isProper (firstRefusal vs) ≡ true →
-    isProper (firstRefusal (v ∷ vs)) ≡ true
-unfolding firstRefusal
-proper-cons v vs h k = proper-else v (firstRefusal vs) h k
+  record-from-says :
+      (place : ℕ) (cs : List Change) (earlier ns : List ℕ) → ((i : ℕ) → P (Answer.Record i) ≡ true) →
+      Says P (recordFrom place cs earlier ns)
+  unfolding recordFrom
+  record-from-says place cs earlier [] h = λ x e. impossible (cc)
+  record-from-says place cs earlier (n ∷ ns) h =
+      says-else (must (recordable cs n && not (among n earlier)) (Answer.Record place)) (recordFrom (place + 1) cs (n ∷ earlier) ns)
+      (says-must (recordable cs n && not (among n earlier)) (Answer.Record place) (h place))
+      (record-from-says (place + 1) cs (n ∷ earlier) ns h)
 
-proper-failing :
-    {A : Type 0} (test : A → Bool) (answer : ℕ → A → Answer) (i : ℕ) (xs : List A) →
-    ((k : ℕ) (x : A) → isRefusal (answer k x) ≡ true) → isProper (firstFailing test answer i xs) ≡ true
-unfolding firstFailing
-proper-failing test answer i [] h = refl
-proper-failing test answer i (x ∷ xs) h =
-    proper-else (must (test x) (answer i x)) (firstFailing test answer (i + 1) xs) (proper-must (test x) (answer i x) (h i x))
-    (proper-failing test answer (i + 1) xs h)
+  equal-says : (d : Numbered) (es : List Numbered) → ((i j : ℕ) → P (Answer.Twice i j) ≡ true) → Says P (firstEqual d es)
+  unfolding firstEqual
+  equal-says d es h = says-failing _ _ 0 es λ k x. h _ _
 
-proper-record : (place : ℕ) (cs : List Change) (earlier ns : List ℕ) → isProper (recordFrom place cs earlier ns) ≡ true
-unfolding recordFrom
-proper-record place cs earlier [] = refl
-proper-record place cs earlier (n ∷ ns) =
-    proper-else (must (recordable cs n && not (among n earlier)) (Answer.Record place)) (recordFrom (place + 1) cs (n ∷ earlier) ns)
-    (proper-must (recordable cs n && not (among n earlier)) (Answer.Record place) refl)
-    (proper-record (place + 1) cs (n ∷ earlier) ns)
+  twice-from-says : (earlier ds : List Numbered) → ((i j : ℕ) → P (Answer.Twice i j) ≡ true) → Says P (twiceFrom earlier ds)
+  unfolding twiceFrom
+  twice-from-says earlier [] h = λ x e. impossible (cc)
+  twice-from-says earlier (d ∷ ds) h =
+      says-else (firstEqual d earlier) (twiceFrom (earlier ++ d ∷ []) ds) (equal-says d earlier h) (twice-from-says (earlier ++ d ∷ []) ds h)
 
-proper-equal : (d : Numbered) (es : List Numbered) → isProper (firstEqual d es) ≡ true
-unfolding firstEqual
-proper-equal d es = proper-failing _ _ 0 es λ k x. refl
+  -- each group says what its checks say
+  pub opening-says :
+      (head : Head) (table : List ℕ) → P Answer.Table ≡ true → P Answer.Poisoned ≡ true → Says P (openingChecks head table)
+  unfolding openingChecks tableCheck poisonCheck
+  opening-says head table h1 h2 =
+      says-first _ (says-must (wellFormed head table) _ h1, (says-must (eqb (head .poisoned) 0) _ h2, tt))
 
-proper-twice : (earlier ds : List Numbered) → isProper (twiceFrom earlier ds) ≡ true
-unfolding twiceFrom
-proper-twice earlier [] = refl
-proper-twice earlier (d ∷ ds) =
-    proper-else (firstEqual d earlier) (twiceFrom (earlier ++ d ∷ []) ds) (proper-equal d earlier) (proper-twice (earlier ++ d ∷ []) ds)
+  pub lent-says :
+      (cs : List ℕ) (paired : Bool) (strip : List ℕ) → P Answer.List ≡ true → P Answer.Strip ≡ true → Says P (lentChecks cs paired strip)
+  unfolding lentChecks listCheck stripCheck
+  lent-says cs paired strip h3 h4 =
+      says-first _ (says-must (properLists cs paired) _ h3, (says-must (properStrip strip) _ h4, tt))
 
--- each check of a call
-module _ (head : Head) (table : List ℕ) (c : Call) where
-  proper-1 : isProper (tableCheck head table) ≡ true
-  unfolding tableCheck
-  proper-1 = proper-must (wellFormed head table) Answer.Table refl
-
-  proper-2 : isProper (poisonCheck head) ≡ true
-  unfolding poisonCheck
-  proper-2 = proper-must (eqb (head .poisoned) 0) Answer.Poisoned refl
-
-  proper-3 : isProper (listCheck c) ≡ true
-  unfolding listCheck
-  proper-3 = proper-must (properLists (c .changeList) (c .guardList)) Answer.List refl
-
-  proper-4 : isProper (stripCheck c) ≡ true
-  unfolding stripCheck
-  proper-4 = proper-must (properStrip (c .strip)) Answer.Strip refl
-
-  proper-5 : isProper (roomCheck c) ≡ true
+  room-says : (cs : List Change) (list : List ℕ) → P Answer.Room ≡ true → Says P (roomCheck cs list)
   unfolding roomCheck
-  proper-5 = proper-must (leb (length (changesOf c)) (length (c .recordList))) Answer.Room refl
+  room-says cs list h5 = says-must (leb (length cs) (length list)) _ h5
 
-  proper-6 : isProper (guardCheck head c) ≡ true
+  guard-says :
+      (bindings : ℕ) (gs : List Guard) (cs : List Change) → ((i : ℕ) → P (Answer.Guard i) ≡ true) → Says P (guardCheck bindings gs cs)
   unfolding guardCheck
-  proper-6 = proper-failing _ _ 0 (changesOf c) λ k x. refl
+  guard-says bindings gs cs h6 = says-failing _ _ 0 cs λ k x. h6 k
 
-  proper-14 : isProper (recordCheck c) ≡ true
+  arriving-says :
+      (ps : List Posting) (cs : List Change) → ((i j : ℕ) → P (Answer.Twice i j) ≡ true) → ((i : ℕ) → P (Answer.Present i) ≡ true) →
+      Says P (arrivingChecks ps cs)
+  unfolding arrivingChecks twiceCheck presentCheck
+  arriving-says ps cs h7 h8 =
+      says-first _ (twice-from-says [] (destinations cs) h7, (says-failing _ _ 0 (destinations cs) (λ k x. h8 _), tt))
+
+  leaving-says : (cs : List Change) → ((i : ℕ) → P (Answer.Overlap i) ≡ true) → Says P (leavingChecks cs)
+  unfolding leavingChecks overlapCheck
+  leaving-says cs h9 = says-first _ (says-failing _ _ 0 (sources cs) (λ k x. h9 _), tt)
+
+  record-says : (cs : List Change) (list : List ℕ) → ((i : ℕ) → P (Answer.Record i) ≡ true) → Says P (recordCheck cs list)
   unfolding recordCheck
-  proper-14 = proper-record 0 (changesOf c) [] (c .recordList)
+  record-says cs list h14 = record-from-says 0 cs [] list h14
 
-  proper-7 : isProper (twiceCheck c) ≡ true
-  unfolding twiceCheck
-  proper-7 = proper-twice [] (destinations (changesOf c))
+  order-says :
+      (head : Head) (table cs : List ℕ) (paired : Bool) (strip list : List ℕ) → P Answer.Table ≡ true → P Answer.Poisoned ≡ true →
+      P Answer.List ≡ true → P Answer.Strip ≡ true → P Answer.Room ≡ true → Says P (orderChecks head table cs paired strip list)
+  unfolding orderChecks
+  order-says head table cs paired strip list h1 h2 h3 h4 h5 =
+      says-first _ (opening-says head table h1 h2, (lent-says cs paired strip h3 h4, (room-says (changes cs) list h5, tt)))
 
-  proper-8 : isProper (presentCheck head table c) ≡ true
-  unfolding presentCheck
-  proper-8 = proper-failing _ _ 0 (destinations (changesOf c)) λ k x. refl
+  -- and so does each call
+  module _ (head : Head) (table : List ℕ) (c : Call) (h1 : P Answer.Table ≡ true) (h2 : P Answer.Poisoned ≡ true) (h3 : P Answer.List ≡ true) (h4 : P Answer.Strip ≡ true) where
+    pub prepare-says :
+        P Answer.Room ≡ true → ((i : ℕ) → P (Answer.Guard i) ≡ true) → ((i j : ℕ) → P (Answer.Twice i j) ≡ true) →
+        ((i : ℕ) → P (Answer.Present i) ≡ true) → Says P (prepareChecks head table c)
+    unfolding prepareChecks
+    prepare-says h5 h6 h7 h8 =
+        says-first _ (opening-says head table h1 h2, (lent-says _ _ _ h3 h4, (room-says _ _ h5, (guard-says _ _ _ h6, (arriving-says _ _ h7 h8, tt)))))
 
-  proper-9 : isProper (overlapCheck c) ≡ true
-  unfolding overlapCheck
-  proper-9 = proper-failing _ _ 0 (sources (changesOf c)) λ k x. refl
+    pub rollback-says :
+        ((i : ℕ) → P (Answer.Guard i) ≡ true) → ((i : ℕ) → P (Answer.Record i) ≡ true) → Says P (rollbackChecks head table c)
+    unfolding rollbackChecks
+    rollback-says h6 h14 =
+        says-first _ (opening-says head table h1 h2, (lent-says _ _ _ h3 h4, (guard-says _ _ _ h6, (record-says _ _ h14, tt))))
 
-  -- and the checks of each call together: all begin with 1 to 4, prepare and publish with 1 to 8
-  proper-opening :
-      (vs : List Verdict) → isProper (firstRefusal vs) ≡ true →
-      isProper (firstRefusal (tableCheck head table ∷ poisonCheck head ∷ listCheck c ∷ stripCheck c ∷ vs)) ≡ true
-  proper-opening vs h =
-      proper-cons _ _ proper-1 (proper-cons _ _ proper-2 (proper-cons _ _ proper-3 (proper-cons _ _ proper-4 h)))
+    pub removal-says : ((i : ℕ) → P (Answer.Guard i) ≡ true) → Says P (removalChecks head table c)
+    unfolding removalChecks
+    removal-says h6 = says-first _ (opening-says head table h1 h2, (lent-says _ _ _ h3 h4, (guard-says _ _ _ h6, tt)))
 
-  proper-inserting :
-      (vs : List Verdict) → isProper (firstRefusal vs) ≡ true →
-      isProper (firstRefusal (roomCheck c ∷ guardCheck head c ∷ twiceCheck c ∷ presentCheck head table c ∷ vs)) ≡ true
-  proper-inserting vs h =
-      proper-cons _ _ proper-5 (proper-cons _ _ proper-6 (proper-cons _ _ proper-7 (proper-cons _ _ proper-8 h)))
+    pub publish-says :
+        P Answer.Room ≡ true → ((i : ℕ) → P (Answer.Guard i) ≡ true) → ((i j : ℕ) → P (Answer.Twice i j) ≡ true) →
+        ((i : ℕ) → P (Answer.Present i) ≡ true) → ((i : ℕ) → P (Answer.Overlap i) ≡ true) → Says P (publishChecks head table c)
+    unfolding publishChecks publishBeside
+    publish-says h5 h6 h7 h8 h9 =
+        says-first _ (order-says head table _ _ _ _ h1 h2 h3 h4 h5, (guard-says _ _ _ h6, (arriving-says _ _ h7 h8, (leaving-says _ h9, tt))))
 
-  pub prepare-proper : isProper (prepareChecks head table c) ≡ true
-  unfolding prepareChecks
-  prepare-proper = proper-opening _ (proper-inserting [] proper-none)
+  pub count-says :
+      (head : Head) (table : List ℕ) (binding : ℕ) → P Answer.Table ≡ true → P Answer.Poisoned ≡ true → P (Answer.Guard 0) ≡ true →
+      Says P (countChecks head table binding)
+  unfolding countChecks
+  count-says head table binding h1 h2 h6 =
+      says-first _ (opening-says head table h1 h2, (says-must (ltb binding (head .bindings)) _ h6, tt))
 
-  pub rollback-proper : isProper (rollbackChecks head table c) ≡ true
-  unfolding rollbackChecks
-  rollback-proper = proper-opening _ (proper-cons _ _ proper-6 (proper-cons _ _ proper-14 proper-none))
+-- the checks refuse with nothing but 1 to 9 and 14
+module _ (head : Head) (table : List ℕ) (c : Call) where
+  pub prepare-proper : Says isRefusal (prepareChecks head table c)
+  prepare-proper = prepare-says isRefusal head table c refl refl refl refl refl (λ i. refl) (λ i j. refl) (λ i. refl)
 
-  pub removal-proper : isProper (removalChecks head table c) ≡ true
-  unfolding removalChecks
-  removal-proper = proper-opening _ (proper-cons _ _ proper-6 proper-none)
+  pub rollback-proper : Says isRefusal (rollbackChecks head table c)
+  rollback-proper = rollback-says isRefusal head table c refl refl refl refl (λ i. refl) (λ i. refl)
 
-  pub publish-proper : isProper (publishChecks head table c) ≡ true
-  unfolding publishChecks
-  publish-proper = proper-opening _ (proper-inserting _ (proper-cons _ _ proper-9 proper-none))
+  pub removal-proper : Says isRefusal (removalChecks head table c)
+  removal-proper = removal-says isRefusal head table c refl refl refl refl (λ i. refl)
 
--- what a check refuses with
-pub refuses : (v : Verdict) (a : Answer) → isProper v ≡ true → v ≡ Verdict.Refused a → isRefusal a ≡ true
-refuses v a h e = rw e at h
+  pub publish-proper : Says isRefusal (publishChecks head table c)
+  publish-proper = publish-says isRefusal head table c refl refl refl refl refl (λ i. refl) (λ i j. refl) (λ i. refl) (λ i. refl)
 
 -- where no element fails, the first passes and so do the rest
 pub failing-first :
@@ -264,7 +281,165 @@ fresh-from ps l earlier (d ∷ ds) answer i f h k = (
         rw (present-inserted p (d .posting) l, f p, present-last p earlier d)
         (sym (or-assoc (same p (d .posting)) (present p (postingsOf earlier)) (present p ps)))
 
--- what all checks of prepare say together
+-- what the groups say where they pass
+module _ (head : Head) (table : List ℕ) where
+  pub opened : openingChecks head table ≡ Verdict.Passes → (wellFormed head table ≡ true) × (head .poisoned ≡ 0)
+  unfolding openingChecks tableCheck poisonCheck
+  opened h =
+      let p = passed _ h in (
+        must-holds (wellFormed head table) Answer.Table (p .0),
+        eqb-true (head .poisoned) 0 (must-holds (eqb (head .poisoned) 0) Answer.Poisoned (p .1 .0)),
+      )
+
+  pub open-passes : wellFormed head table ≡ true → head .poisoned ≡ 0 → openingChecks head table ≡ Verdict.Passes
+  unfolding openingChecks tableCheck poisonCheck firstRefusal
+  open-passes f k = rw (f, eq-eqb (head .poisoned) 0 k)
+
+  -- a table that is not well formed is refused with 1, whatever its flag is
+  pub open-unformed : wellFormed head table ≡ false → openingChecks head table ≡ Verdict.Refused Answer.Table
+  unfolding openingChecks tableCheck firstRefusal
+  open-unformed f = rw f
+
+  -- a poisoned table is refused with 2
+  pub open-poisoned : wellFormed head table ≡ true → head .poisoned ≡ 1 → openingChecks head table ≡ Verdict.Refused Answer.Poisoned
+  unfolding openingChecks tableCheck poisonCheck firstRefusal
+  open-poisoned f k =
+      let n : eqb (head .poisoned) 0 ≡ false = ne-eqb (head .poisoned) 0 (λ e. omega arith) in
+      rw (f, n)
+
+-- every call begins with 1 and 2: what these refuse, it refuses
+module _ (head : Head) (table : List ℕ) (a : Answer) (h : openingChecks head table ≡ Verdict.Refused a) where
+  pub prepare-opens : (c : Call) → prepareChecks head table c ≡ Verdict.Refused a
+  unfolding prepareChecks
+  prepare-opens c = first-refuses _ _ a h
+
+  pub rollback-opens : (c : Call) → rollbackChecks head table c ≡ Verdict.Refused a
+  unfolding rollbackChecks
+  rollback-opens c = first-refuses _ _ a h
+
+  pub removal-opens : (c : Call) → removalChecks head table c ≡ Verdict.Refused a
+  unfolding removalChecks
+  removal-opens c = first-refuses _ _ a h
+
+  pub publish-opens : (c : Call) → publishChecks head table c ≡ Verdict.Refused a
+  unfolding publishChecks publishBeside orderChecks
+  publish-opens c = first-refuses _ _ a (first-refuses _ _ a h)
+
+  pub count-opens : (binding : ℕ) → countChecks head table binding ≡ Verdict.Refused a
+  unfolding countChecks
+  count-opens binding = first-refuses _ _ a h
+
+module _ (cs : List ℕ) (paired : Bool) (strip : List ℕ) where
+  pub lent-proper : lentChecks cs paired strip ≡ Verdict.Passes → (properLists cs paired ≡ true) × (properStrip strip ≡ true)
+  unfolding lentChecks listCheck stripCheck
+  lent-proper h =
+      let p = passed _ h in
+      (must-holds (properLists cs paired) Answer.List (p .0), must-holds (properStrip strip) Answer.Strip (p .1 .0))
+
+  pub lent-passes : properLists cs paired ≡ true → properStrip strip ≡ true → lentChecks cs paired strip ≡ Verdict.Passes
+  unfolding lentChecks listCheck stripCheck firstRefusal
+  lent-passes l k = rw (l, k)
+
+-- lists that 3 takes are within the limit
+pub proper-few : (cs : List ℕ) (paired : Bool) → properLists cs paired ≡ true → length (changes cs) ≤ mostChanges
+unfolding properLists
+proper-few cs paired h =
+    let p : Bool = properChanges cs in
+    let m : Bool = leb (length (changes cs)) mostChanges in
+    leb-true (length (changes cs)) mostChanges (and-elim-right p m (and-elim-left (p && m) paired h))
+
+module _ (cs : List Change) (list : List ℕ) where
+  pub room-places : roomCheck cs list ≡ Verdict.Passes → length cs ≤ length list
+  unfolding roomCheck
+  room-places h = leb-true (length cs) (length list) (must-holds (leb (length cs) (length list)) Answer.Room h)
+
+  pub room-passes : length cs ≤ length list → roomCheck cs list ≡ Verdict.Passes
+  unfolding roomCheck
+  room-passes h = rw (le-leb (length cs) (length list) h)
+
+pub arriving-parts :
+    (ps : List Posting) (cs : List Change) → arrivingChecks ps cs ≡ Verdict.Passes →
+    (twiceCheck cs ≡ Verdict.Passes) × (presentCheck ps cs ≡ Verdict.Passes)
+unfolding arrivingChecks
+arriving-parts ps cs h = let p = passed _ h in (p .0, p .1 .0)
+
+-- the groups of an order that passed
+pub record Ordered (head : Head) (table cs : List ℕ) (paired : Bool) (strip list : List ℕ) : Type 0 where
+  pub opening : openingChecks head table ≡ Verdict.Passes
+  pub lent : lentChecks cs paired strip ≡ Verdict.Passes
+  pub room : roomCheck (changes cs) list ≡ Verdict.Passes
+
+-- 1 to 5 pass with another strip that is proper and another record list that has room
+module _ (head : Head) (table cs : List ℕ) (paired : Bool) (strip list : List ℕ) (h : orderChecks head table cs paired strip list ≡ Verdict.Passes) where
+  pub order-passed : Ordered head table cs paired strip list
+  unfolding orderChecks
+  order-passed = let p = passed _ h in record { opening = p .0; lent = p .1 .0; room = p .1 .1 .0 }
+
+  pub order-relent :
+      (strip′ list′ : List ℕ) → properStrip strip′ ≡ true → length (changes cs) ≤ length list′ →
+      orderChecks head table cs paired strip′ list′ ≡ Verdict.Passes
+  unfolding orderChecks
+  order-relent strip′ list′ s r =
+      let o = order-passed in
+      all-pass _ (o .opening, (lent-passes cs paired strip′ (lent-proper cs paired strip (o .lent) .0) s, (room-passes (changes cs) list′ r, tt)))
+
+-- the groups of a call that passed, as far as prepare and publish have both
+pub record Passed (head : Head) (table : List ℕ) (c : Call) : Type 0 where
+  pub opening : openingChecks head table ≡ Verdict.Passes
+  pub lent : lentOf c ≡ Verdict.Passes
+  pub room : roomCheck (changesOf c) (c .recordList) ≡ Verdict.Passes
+  pub guarding : guardingOf head c ≡ Verdict.Passes
+  pub arriving : arrivingChecks (postings (head .used) table) (changesOf c) ≡ Verdict.Passes
+
+module _ (head : Head) (table : List ℕ) (c : Call) where
+  pub prepare-passed : prepareChecks head table c ≡ Verdict.Passes → Passed head table c
+  unfolding prepareChecks
+  prepare-passed h =
+      let p = passed _ h in
+      record { opening = p .0; lent = p .1 .0; room = p .1 .1 .0; guarding = p .1 .1 .1 .0; arriving = p .1 .1 .1 .1 .0 }
+
+  pub publish-passed : publishChecks head table c ≡ Verdict.Passes → Passed head table c
+  unfolding publishChecks publishBeside
+  publish-passed h =
+      let p = passed _ h in
+      let o = order-passed _ _ _ _ _ _ (p .0) in
+      record { opening = o .opening; lent = o .lent; room = o .room; guarding = p .1 .0; arriving = p .1 .1 .0 }
+
+  -- a publish has the checks of its sources too
+  pub publish-leaving : publishChecks head table c ≡ Verdict.Passes → leavingChecks (changesOf c) ≡ Verdict.Passes
+  unfolding publishChecks publishBeside
+  publish-leaving h = passed _ h .1 .1 .1 .0
+
+  -- the same changes and guards pass with another strip that is proper and another record list that has room
+  pub publish-relent :
+      (strip list : List ℕ) → properStrip strip ≡ true → length (changesOf c) ≤ length list →
+      publishChecks head table c ≡ Verdict.Passes →
+      publishChecks head table (lending (c .changeList) (c .guardList) strip list) ≡ Verdict.Passes
+  unfolding publishChecks publishBeside
+  publish-relent strip list s r h =
+      let p = passed _ h in
+      all-pass _ (order-relent _ _ _ _ _ _ (p .0) strip list s r, p .1)
+
+  -- rollback and removal
+  pub rollback-passed :
+      rollbackChecks head table c ≡ Verdict.Passes →
+      (openingChecks head table ≡ Verdict.Passes) × (lentOf c ≡ Verdict.Passes) × (guardingOf head c ≡ Verdict.Passes) × (recordCheck (changesOf c) (c .recordList) ≡ Verdict.Passes)
+  unfolding rollbackChecks
+  rollback-passed h = let p = passed _ h in (p .0, p .1 .0, p .1 .1 .0, p .1 .1 .1 .0)
+
+  pub rollback-passes :
+      openingChecks head table ≡ Verdict.Passes → lentOf c ≡ Verdict.Passes → guardingOf head c ≡ Verdict.Passes →
+      recordCheck (changesOf c) (c .recordList) ≡ Verdict.Passes → rollbackChecks head table c ≡ Verdict.Passes
+  unfolding rollbackChecks
+  rollback-passes h l g r = all-pass _ (h, (l, (g, (r, tt))))
+
+  pub removal-passed :
+      removalChecks head table c ≡ Verdict.Passes →
+      (openingChecks head table ≡ Verdict.Passes) × (lentOf c ≡ Verdict.Passes) × (guardingOf head c ≡ Verdict.Passes)
+  unfolding removalChecks
+  removal-passed h = let p = passed _ h in (p .0, p .1 .0, p .1 .1 .0)
+
+-- what the checks of prepare say together
 pub record Clear (head : Head) (table : List ℕ) (c : Call) : Type 0 where
   pub formed : wellFormed head table ≡ true
   pub healthy : head .poisoned ≡ 0
@@ -273,65 +448,34 @@ pub record Clear (head : Head) (table : List ℕ) (c : Call) : Type 0 where
   pub fresh : Fresh (destinations (changesOf c)) (postings (head .used) table)
 
 module _ (head : Head) (table : List ℕ) (c : Call) where
-  formed-of : tableCheck head table ≡ Verdict.Passes → wellFormed head table ≡ true
-  unfolding tableCheck
-  formed-of h = must-holds (wellFormed head table) Answer.Table h
-
-  healthy-of : poisonCheck head ≡ Verdict.Passes → head .poisoned ≡ 0
-  unfolding poisonCheck
-  healthy-of h = eqb-true (head .poisoned) 0 (must-holds (eqb (head .poisoned) 0) Answer.Poisoned h)
-
-  -- every call begins with 1 and 2, prepare and publish with 1 to 8
-  formed-first :
-      (vs : List Verdict) → firstRefusal (tableCheck head table ∷ poisonCheck head ∷ vs) ≡ Verdict.Passes →
-      (wellFormed head table ≡ true) × (head .poisoned ≡ 0)
-  formed-first vs h = (formed-of (first-passes _ _ h), healthy-of (first-passes _ _ (rest-passes _ _ h)))
-
-  clear-first :
-      (vs : List Verdict) →
-      firstRefusal (tableCheck head table ∷ poisonCheck head ∷ listCheck c ∷ stripCheck c ∷ roomCheck c ∷ guardCheck head c ∷ twiceCheck c ∷ presentCheck head table c ∷ vs) ≡ Verdict.Passes →
-      Clear head table c
-  unfolding roomCheck guardCheck twiceCheck presentCheck present
-  clear-first vs h1 =
-      let h5 = rest-passes _ _ (rest-passes _ _ (rest-passes _ _ (rest-passes _ _ h1))) in
-      let h6 = rest-passes _ _ h5 in
-      let h7 = rest-passes _ _ h6 in
-      let h8 = rest-passes _ _ h7 in
-      let f = formed-first _ h1 in
+  cleared : Passed head table c → Clear head table c
+  unfolding guardCheck twiceCheck presentCheck present
+  cleared p =
+      let f = opened head table (p .opening) in
+      let a = arriving-parts _ _ (p .arriving) in
       record {
         formed = f .0;
         healthy = f .1;
-        places =
-            leb-true (length (changesOf c)) (length (c .recordList))
-            (must-holds (leb (length (changesOf c)) (length (c .recordList))) Answer.Room (first-passes _ _ h5));
-        bound = destinations-below (head .bindings) _ _ 0 0 (changesOf c) (first-passes _ _ h6);
+        places = room-places (changesOf c) (c .recordList) (p .room);
+        bound = destinations-below (head .bindings) _ _ 0 0 (changesOf c) (p .guarding);
         fresh =
             fresh-from (postings (head .used) table) (postings (head .used) table) [] (destinations (changesOf c)) _ 0 (λ p. refl)
-            (first-passes _ _ h7)
-            (first-passes _ _ h8);
+            (a .0)
+            (a .1);
       }
 
   pub prepare-clear : prepareChecks head table c ≡ Verdict.Passes → Clear head table c
-  unfolding prepareChecks
-  prepare-clear h = clear-first [] h
+  prepare-clear h = cleared (prepare-passed head table c h)
 
   pub publish-clear : publishChecks head table c ≡ Verdict.Passes → Clear head table c
-  unfolding publishChecks
-  publish-clear h = clear-first (overlapCheck c ∷ []) h
+  publish-clear h = cleared (publish-passed head table c h)
 
   pub rollback-formed : rollbackChecks head table c ≡ Verdict.Passes → (wellFormed head table ≡ true) × (head .poisoned ≡ 0)
-  unfolding rollbackChecks
-  rollback-formed h = formed-first _ h
+  rollback-formed h = opened head table (rollback-passed head table c h .0)
 
   pub removal-formed : removalChecks head table c ≡ Verdict.Passes → (wellFormed head table ≡ true) × (head .poisoned ≡ 0)
-  unfolding removalChecks
-  removal-formed h = formed-first _ h
+  removal-formed h = opened head table (removal-passed head table c h .0)
 
--- a poisoned table is refused with 2, whatever else is lent
-pub poisoned-first :
-    (head : Head) (table : List ℕ) (vs : List Verdict) → wellFormed head table ≡ true → head .poisoned ≡ 1 →
-    firstRefusal (tableCheck head table ∷ poisonCheck head ∷ vs) ≡ Verdict.Refused Answer.Poisoned
-unfolding firstRefusal tableCheck poisonCheck
-poisoned-first head table vs h k =
-    let n : eqb (head .poisoned) 0 ≡ false = ne-eqb (head .poisoned) 0 (λ e. omega arith) in
-    rw (h, n)
+pub count-formed : (head : Head) (table : List ℕ) (binding : ℕ) → countChecks head table binding ≡ Verdict.Passes → wellFormed head table ≡ true
+unfolding countChecks
+count-formed head table binding h = opened head table (passed _ h .0) .0

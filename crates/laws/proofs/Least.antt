@@ -10,12 +10,12 @@ use mathlib.Mathlib.Data.Bool.Basic.{and-elim-left, and-elim-right}
 use lib.ListN.{length, getD}
 use lib.Dec.{leb}
 use borrow.Author.Tests.{leb-true}
-use Rattle.rules.specs.declared.Head.{Head}
+use Rattle.rules.specs.declared.Posting.{Posting}
+use Rattle.rules.specs.declared.Change.{Change}
 use Rattle.rules.specs.declared.Answer.{Answer}
 use Rattle.rules.specs.declared.Verdict.{Verdict}
 use Rattle.rules.specs.Postings.{present}
-use Rattle.rules.specs.Table.{postings}
-use Rattle.rules.specs.Orders.{Numbered, destinations, sources, postingsOf, changeNumbers, Call, changesOf}
+use Rattle.rules.specs.Orders.{Numbered, destinations, sources, postingsOf, changeNumbers}
 use Rattle.rules.specs.Checks.{twiceCheck, presentCheck, overlapCheck}
 use Rattle.laws.specs.Words.{nowhere, numberAt, rising}
 use Rattle.laws.specs.Names.{twins, FirstAt, NamesPair}
@@ -56,26 +56,26 @@ first-least test ds k r f j l e = go (tri k j)
     go (equal h) = rw h (omega arith)
     go (more h) = absurd (clash (test (getD ds j nowhere)) (f .before j h) e)
 
-module _ (c : Call) where
+module _ (cs : List Change) where
   -- 7: the lower change of the pair is told first
-  pub twice-ordered : (m n : ℕ) → twiceCheck c ≡ Verdict.Refused (Answer.Twice m n) → m < n
+  pub twice-ordered : (m n : ℕ) → twiceCheck cs ≡ Verdict.Refused (Answer.Twice m n) → m < n
   twice-ordered m n h =
-      let p = twice-names c (Answer.Twice m n) h in
+      let p = twice-names cs (Answer.Twice m n) h in
       let e = p .names in
-      let l : m ≡ numberAt (destinations (changesOf c)) (p .i) = cc in
-      let r : n ≡ numberAt (destinations (changesOf c)) (p .j) = cc in
-      let k = rising-places 0 (destinations (changesOf c)) (rising-numbers (changesOf c)) (p .i) (p .j) (p .first .order) (p .first .there) in
+      let l : m ≡ numberAt (destinations cs) (p .i) = cc in
+      let r : n ≡ numberAt (destinations cs) (p .j) = cc in
+      let k = rising-places 0 (destinations cs) (rising-numbers cs) (p .i) (p .j) (p .first .order) (p .first .there) in
       omega arith
 
   -- and no equal pair has a lower second change, or the same second and a lower first
   pub twice-least :
-      (m n : ℕ) → twiceCheck c ≡ Verdict.Refused (Answer.Twice m n) → (i j : ℕ) → i < j → j < length (destinations (changesOf c)) →
-      twins (destinations (changesOf c)) i j ≡ true →
-      (n < numberAt (destinations (changesOf c)) j) ⊎ ((n ≡ numberAt (destinations (changesOf c)) j) × (m ≤ numberAt (destinations (changesOf c)) i))
+      (m n : ℕ) → twiceCheck cs ≡ Verdict.Refused (Answer.Twice m n) → (i j : ℕ) → i < j → j < length (destinations cs) →
+      twins (destinations cs) i j ≡ true →
+      (n < numberAt (destinations cs) j) ⊎ ((n ≡ numberAt (destinations cs) j) × (m ≤ numberAt (destinations cs) i))
   twice-least m n h i j k l t = go (tri (p .j) j)
     where
-      p : NamesPair (destinations (changesOf c)) (Answer.Twice m n)
-      p = twice-names c (Answer.Twice m n) h
+      p : NamesPair (destinations cs) (Answer.Twice m n)
+      p = twice-names cs (Answer.Twice m n) h
 
       low : (x y : ℕ) → Answer.Twice m n ≡ Answer.Twice x y → m ≡ x
       low x y e = cc
@@ -83,37 +83,37 @@ module _ (c : Call) where
       high : (x y : ℕ) → Answer.Twice m n ≡ Answer.Twice x y → n ≡ y
       high x y e = cc
 
-      up : (a b : ℕ) → a < b → b < length (destinations (changesOf c)) → numberAt (destinations (changesOf c)) a < numberAt (destinations (changesOf c)) b
-      up = rising-places 0 (destinations (changesOf c)) (rising-numbers (changesOf c))
+      up : (a b : ℕ) → a < b → b < length (destinations cs) → numberAt (destinations cs) a < numberAt (destinations cs) b
+      up = rising-places 0 (destinations cs) (rising-numbers cs)
 
-      near : p .j ≡ j → Tri (p .i) i → m ≤ numberAt (destinations (changesOf c)) i
+      near : p .j ≡ j → Tri (p .i) i → m ≤ numberAt (destinations cs) i
       near e (less x) = let u = up (p .i) i x (omega arith) in let z = low _ _ (p .names) in omega arith
       near e (equal x) = let z = low _ _ (p .names) in rw (← x) (omega arith)
-      near e (more x) = absurd (clash (twins (destinations (changesOf c)) i j) t (rw e at (p .first .nearest i x)))
+      near e (more x) = absurd (clash (twins (destinations cs) i j) t (rw e at (p .first .nearest i x)))
 
-      go : Tri (p .j) j → (n < numberAt (destinations (changesOf c)) j) ⊎ ((n ≡ numberAt (destinations (changesOf c)) j) × (m ≤ numberAt (destinations (changesOf c)) i))
+      go : Tri (p .j) j → (n < numberAt (destinations cs) j) ⊎ ((n ≡ numberAt (destinations cs) j) × (m ≤ numberAt (destinations cs) i))
       go (less x) = let u = up (p .j) j x l in let z = high _ _ (p .names) in inl (omega arith)
-      go (equal x) = inr (high _ _ (p .names) ∙ ap (numberAt (destinations (changesOf c))) x, near x (tri (p .i) i))
-      go (more x) = absurd (clash (twins (destinations (changesOf c)) i j) t (p .first .before i j k x))
+      go (equal x) = inr (high _ _ (p .names) ∙ ap (numberAt (destinations cs)) x, near x (tri (p .i) i))
+      go (more x) = absurd (clash (twins (destinations cs) i j) t (p .first .before i j k x))
 
 -- 8: the least change whose destination stands in the table
 pub present-least :
-    (head : Head) (table : List ℕ) (c : Call) (n : ℕ) → presentCheck head table c ≡ Verdict.Refused (Answer.Present n) → (j : ℕ) →
-    j < length (destinations (changesOf c)) → present (getD (destinations (changesOf c)) j nowhere .posting) (postings (head .used) table) ≡ true →
-    n ≤ numberAt (destinations (changesOf c)) j
-present-least head table c n h j l e =
-    let p = present-names head table c (Answer.Present n) h in
+    (ps : List Posting) (cs : List Change) (n : ℕ) → presentCheck ps cs ≡ Verdict.Refused (Answer.Present n) → (j : ℕ) →
+    j < length (destinations cs) → present (getD (destinations cs) j nowhere .posting) ps ≡ true →
+    n ≤ numberAt (destinations cs) j
+present-least ps cs n h j l e =
+    let p = present-names ps cs (Answer.Present n) h in
     let k = p .2 in
-    let z : n ≡ numberAt (destinations (changesOf c)) (p .0) = cc in
-    rw z (first-least _ (destinations (changesOf c)) (p .0) (rising-numbers (changesOf c)) (p .1) j l (rw e))
+    let z : n ≡ numberAt (destinations cs) (p .0) = cc in
+    rw z (first-least _ (destinations cs) (p .0) (rising-numbers cs) (p .1) j l (rw e))
 
 -- 9: the least change whose source is a destination of the list
 pub overlap-least :
-    (c : Call) (n : ℕ) → overlapCheck c ≡ Verdict.Refused (Answer.Overlap n) → (j : ℕ) → j < length (sources (changesOf c)) →
-    present (getD (sources (changesOf c)) j nowhere .posting) (postingsOf (destinations (changesOf c))) ≡ true →
-    n ≤ numberAt (sources (changesOf c)) j
-overlap-least c n h j l e =
-    let p = overlap-names c (Answer.Overlap n) h in
+    (cs : List Change) (n : ℕ) → overlapCheck cs ≡ Verdict.Refused (Answer.Overlap n) → (j : ℕ) → j < length (sources cs) →
+    present (getD (sources cs) j nowhere .posting) (postingsOf (destinations cs)) ≡ true →
+    n ≤ numberAt (sources cs) j
+overlap-least cs n h j l e =
+    let p = overlap-names cs (Answer.Overlap n) h in
     let k = p .2 in
-    let z : n ≡ numberAt (sources (changesOf c)) (p .0) = cc in
-    rw z (first-least _ (sources (changesOf c)) (p .0) (rising-sources (changesOf c)) (p .1) j l (rw e))
+    let z : n ≡ numberAt (sources cs) (p .0) = cc in
+    rw z (first-least _ (sources cs) (p .0) (rising-sources cs) (p .1) j l (rw e))

@@ -4,6 +4,7 @@ pub mod Ranks
 pub mod Lists
 pub mod Sorted
 pub mod Flat
+pub mod Flags
 pub mod Steps
 pub mod Undo
 pub mod Prepare

@@ -11,14 +11,13 @@ use lib.ListN.{length, getD, length-append, List·getD-append}
 use lib.Seq.{getD-append-seam, append-snoc}
 use lib.Dec.{eqb}
 use borrow.Author.Tests.{eq-eqb, eqb-true, eqb-false, not-true, not-false}
+use Rattle.rules.specs.declared.Posting.{Posting}
 use Rattle.rules.specs.declared.Change.{Change}
 use Rattle.rules.specs.declared.Guard.{Guard}
-use Rattle.rules.specs.declared.Head.{Head}
 use Rattle.rules.specs.declared.Answer.{Answer}
 use Rattle.rules.specs.declared.Verdict.{Verdict}
 use Rattle.rules.specs.Postings.{present}
-use Rattle.rules.specs.Table.{postings}
-use Rattle.rules.specs.Orders.{Numbered, guards, held, destinations, sources, postingsOf, noChange, Call, changesOf}
+use Rattle.rules.specs.Orders.{Numbered, held, destinations, sources, postingsOf, noChange}
 use Rattle.rules.specs.Checks.{must, orElse, firstRefusal, firstFailing, guarded, guardCheck, recordable, recordFrom, recordCheck, firstEqual, twiceFrom, twiceCheck, presentCheck, overlapCheck}
 use Rattle.lent_lists.specs.Among.{among}
 use Rattle.lent_lists.proofs.Among.{place-among, among-place}
@@ -80,51 +79,50 @@ failing-names none test answer i (x ∷ xs) a h = go (test x) refl (failing-name
         earlier m f (suc k) l = f k (omega arith)
 
 -- 6
-module _ (head : Head) (c : Call) where
+module _ (bindings : ℕ) (gs : List Guard) (cs : List Change) where
   pub guard-passes :
-      guardCheck head c ≡ Verdict.Passes → (k : ℕ) → k < length (changesOf c) →
-      guarded (head .bindings) (guards (c .guardList)) (getD (changesOf c) k noChange) ≡ true
+      guardCheck bindings gs cs ≡ Verdict.Passes → (k : ℕ) → k < length cs → guarded bindings gs (getD cs k noChange) ≡ true
   unfolding guardCheck
-  guard-passes h = failing-passes noChange _ _ 0 (changesOf c) h
+  guard-passes h = failing-passes noChange _ _ 0 cs h
 
   pub guard-names :
-      (a : Answer) → guardCheck head c ≡ Verdict.Refused a →
-      (k : ℕ) × FirstAt (guarded (head .bindings) (guards (c .guardList))) noChange (changesOf c) k × (a ≡ Answer.Guard k)
+      (a : Answer) → guardCheck bindings gs cs ≡ Verdict.Refused a →
+      (k : ℕ) × FirstAt (guarded bindings gs) noChange cs k × (a ≡ Answer.Guard k)
   unfolding guardCheck
   guard-names a h =
-      let n = failing-names noChange _ _ 0 (changesOf c) a h in
+      let n = failing-names noChange _ _ 0 cs a h in
       (n .at, n .first, n .names ∙ ap Answer.Guard (zero-add (n .at)))
 
 -- 8
-module _ (head : Head) (table : List ℕ) (c : Call) where
+module _ (ps : List Posting) (cs : List Change) where
   pub present-passes :
-      presentCheck head table c ≡ Verdict.Passes → (k : ℕ) → k < length (destinations (changesOf c)) →
-      present (getD (destinations (changesOf c)) k nowhere .posting) (postings (head .used) table) ≡ false
+      presentCheck ps cs ≡ Verdict.Passes → (k : ℕ) → k < length (destinations cs) →
+      present (getD (destinations cs) k nowhere .posting) ps ≡ false
   unfolding presentCheck
-  present-passes h k l = not-true _ (failing-passes nowhere _ _ 0 (destinations (changesOf c)) h k l)
+  present-passes h k l = not-true _ (failing-passes nowhere _ _ 0 (destinations cs) h k l)
 
   pub present-names :
-      (a : Answer) → presentCheck head table c ≡ Verdict.Refused a →
-      (k : ℕ) × FirstAt (λ (d : Numbered). not (present (d .posting) (postings (head .used) table))) nowhere (destinations (changesOf c)) k × (a ≡ Answer.Present (numberAt (destinations (changesOf c)) k))
+      (a : Answer) → presentCheck ps cs ≡ Verdict.Refused a →
+      (k : ℕ) × FirstAt (λ (d : Numbered). not (present (d .posting) ps)) nowhere (destinations cs) k × (a ≡ Answer.Present (numberAt (destinations cs) k))
   unfolding presentCheck
   present-names a h =
-      let n = failing-names nowhere _ _ 0 (destinations (changesOf c)) a h in
+      let n = failing-names nowhere _ _ 0 (destinations cs) a h in
       (n .at, n .first, n .names)
 
 -- 9
-module _ (c : Call) where
+module _ (cs : List Change) where
   pub overlap-passes :
-      overlapCheck c ≡ Verdict.Passes → (k : ℕ) → k < length (sources (changesOf c)) →
-      present (getD (sources (changesOf c)) k nowhere .posting) (postingsOf (destinations (changesOf c))) ≡ false
+      overlapCheck cs ≡ Verdict.Passes → (k : ℕ) → k < length (sources cs) →
+      present (getD (sources cs) k nowhere .posting) (postingsOf (destinations cs)) ≡ false
   unfolding overlapCheck
-  overlap-passes h k l = not-true _ (failing-passes nowhere _ _ 0 (sources (changesOf c)) h k l)
+  overlap-passes h k l = not-true _ (failing-passes nowhere _ _ 0 (sources cs) h k l)
 
   pub overlap-names :
-      (a : Answer) → overlapCheck c ≡ Verdict.Refused a →
-      (k : ℕ) × FirstAt (λ (s : Numbered). not (present (s .posting) (postingsOf (destinations (changesOf c))))) nowhere (sources (changesOf c)) k × (a ≡ Answer.Overlap (numberAt (sources (changesOf c)) k))
+      (a : Answer) → overlapCheck cs ≡ Verdict.Refused a →
+      (k : ℕ) × FirstAt (λ (s : Numbered). not (present (s .posting) (postingsOf (destinations cs)))) nowhere (sources cs) k × (a ≡ Answer.Overlap (numberAt (sources cs) k))
   unfolding overlapCheck
   overlap-names a h =
-      let n = failing-names nowhere _ _ 0 (sources (changesOf c)) a h in
+      let n = failing-names nowhere _ _ 0 (sources cs) a h in
       (n .at, n .first, n .names)
 
 -- 7: the destination at place n, behind the earlier ones
@@ -200,16 +198,16 @@ twice-from all earlier (d ∷ ds) e f =
           record { i = p .0; j = length earlier; first = p .1; names = p .2 }),
     )
 
-module _ (c : Call) where
-  both-ways : (twiceFrom [] (destinations (changesOf c)) ≡ Verdict.Passes → Apart (destinations (changesOf c)) (length (destinations (changesOf c)))) × ((a : Answer) → twiceFrom [] (destinations (changesOf c)) ≡ Verdict.Refused a → NamesPair (destinations (changesOf c)) a)
-  both-ways = twice-from (destinations (changesOf c)) [] (destinations (changesOf c)) refl λ l m x y. absurd (omega arith)
+module _ (cs : List Change) where
+  both-ways : (twiceFrom [] (destinations cs) ≡ Verdict.Passes → Apart (destinations cs) (length (destinations cs))) × ((a : Answer) → twiceFrom [] (destinations cs) ≡ Verdict.Refused a → NamesPair (destinations cs) a)
+  both-ways = twice-from (destinations cs) [] (destinations cs) refl λ l m x y. absurd (omega arith)
 
   -- upstream's unique_destinations
-  pub twice-passes : twiceCheck c ≡ Verdict.Passes → Apart (destinations (changesOf c)) (length (destinations (changesOf c)))
+  pub twice-passes : twiceCheck cs ≡ Verdict.Passes → Apart (destinations cs) (length (destinations cs))
   unfolding twiceCheck
   twice-passes h = both-ways .0 h
 
-  pub twice-names : (a : Answer) → twiceCheck c ≡ Verdict.Refused a → NamesPair (destinations (changesOf c)) a
+  pub twice-names : (a : Answer) → twiceCheck cs ≡ Verdict.Refused a → NamesPair (destinations cs) a
   unfolding twiceCheck
   twice-names a h = both-ways .1 a h
 
@@ -307,18 +305,18 @@ record-from cs all pre (n ∷ ns) earlier e f g =
             {a : Answer} → Verdict.Refused (Answer.Record (length pre)) ≡ Verdict.Refused a → a ≡ Answer.Record (length pre)
         same-refusal {a} k = cc
 
-module _ (c : Call) where
-  record-both : (recordFrom 0 (changesOf c) [] (c .recordList) ≡ Verdict.Passes → AllFine (changesOf c) (c .recordList) (length (c .recordList))) × ((a : Answer) → recordFrom 0 (changesOf c) [] (c .recordList) ≡ Verdict.Refused a → NamesBad (changesOf c) (c .recordList) a)
-  record-both = record-from (changesOf c) (c .recordList) [] (c .recordList) [] refl (λ m. refl) λ i h. absurd (omega arith)
+module _ (cs : List Change) (list : List ℕ) where
+  record-both : (recordFrom 0 cs [] list ≡ Verdict.Passes → AllFine cs list (length list)) × ((a : Answer) → recordFrom 0 cs [] list ≡ Verdict.Refused a → NamesBad cs list a)
+  record-both = record-from cs list [] list [] refl (λ m. refl) λ i h. absurd (omega arith)
 
   -- upstream's valid_indices
   pub record-passes :
-      recordCheck c ≡ Verdict.Passes → (i : ℕ) → i < length (c .recordList) →
-      (recordable (changesOf c) (getD (c .recordList) i 0) ≡ true) × (Repeated (c .recordList) i → ⊥)
+      recordCheck cs list ≡ Verdict.Passes → (i : ℕ) → i < length list →
+      (recordable cs (getD list i 0) ≡ true) × (Repeated list i → ⊥)
   unfolding recordCheck
   record-passes h = record-both .0 h
 
-  pub record-names : (a : Answer) → recordCheck c ≡ Verdict.Refused a → NamesBad (changesOf c) (c .recordList) a
+  pub record-names : (a : Answer) → recordCheck cs list ≡ Verdict.Refused a → NamesBad cs list a
   unfolding recordCheck
   record-names a h = record-both .1 a h
 

@@ -10,7 +10,7 @@ use Rattle.strips.specs.Strips.{byteAt}
 use Rattle.rules.specs.declared.Posting.{Posting}
 use Rattle.rules.specs.declared.Head.{Head}
 use Rattle.rules.specs.declared.Answer.{Answer}
-use Rattle.rules.specs.Answers.{toldOf, poisons}
+use Rattle.rules.specs.Answers.{Class, classOf, refuses, changesNothing, poisons}
 use Rattle.rules.specs.Postings.{present, inserted, removed}
 use Rattle.rules.specs.Orders.{Numbered, Call}
 use Rattle.rules.specs.Table.{postings, wellFormed}
@@ -59,13 +59,19 @@ pub record RemovedOnly (before after owned : List Posting) : Type 0 where
   pub inside : (p : Posting) → present p after ≡ true → present p before ≡ true
   pub kept : (p : Posting) → present p before ≡ true → present p owned ≡ false → present p after ≡ true
 
+-- the class that a number tells: 0; 10 and 11; 12 and 13; every other is a refusal
+abbrev pub classOfNumber : ℕ → Class
+classOfNumber n =
+    cond (eqb n 0) Class.accepted
+    (cond (eqb n 10 || eqb n 11) Class.undone (cond (eqb n 12 || eqb n 13) Class.broken Class.refused))
+
 -- 1 to 9 and 14: what a check refuses with
 abbrev pub isRefusal : Answer → Bool
-isRefusal a = (leb 1 (toldOf a .answer) && leb (toldOf a .answer) 9) || eqb (toldOf a .answer) 14
+isRefusal a = refuses (classOf a)
 
 -- 1 to 11 and 14: the answers that leave everything as before
 abbrev pub isUnchanged : Answer → Bool
-isUnchanged a = (leb 1 (toldOf a .answer) && leb (toldOf a .answer) 11) || eqb (toldOf a .answer) 14
+isUnchanged a = changesNothing (classOf a)
 
 -- what is claimed of the outcome of a call: an answer of 1 to 11 or 14 leaves everything as before
 abbrev pub AsBefore : Head → List ℕ → Call → Outcome → Type 0
@@ -79,6 +85,10 @@ StaysWellFormed head table o = wellFormed head table ≡ true → wellFormed (o 
 abbrev pub RefusesPoisoned : Head → List ℕ → Call → Outcome → Type 0
 RefusesPoisoned head table c o =
     wellFormed head table ≡ true → head .poisoned ≡ 1 → o ≡ asBefore head table (c .recordList) Answer.Poisoned
+
+-- it is refused with 1, whatever its poison flag is, and nothing changes
+abbrev pub RefusesUnformed : Head → List ℕ → Call → Outcome → Type 0
+RefusesUnformed head table c o = wellFormed head table ≡ false → o ≡ asBefore head table (c .recordList) Answer.Table
 
 -- upstream's stable, and the table's size: no answer touches the binding count, and only 12 and 13 touch the poison flag
 pub record Stable (head : Head) (table : List ℕ) (o : Outcome) : Type 0 where

@@ -2,16 +2,13 @@
 use Prim.Native.Nat.{ℕ}
 use mathlib.Core.Path.{_≡_, sym, ap, _∙_}
 use mathlib.Core.List.{List}
-use mathlib.Core.Bool.{Bool}
 use Rattle.rules.specs.declared.Answer.{Answer}
 use Rattle.rules.specs.declared.Head.{Head}
-use Rattle.rules.specs.Orders.{Call, lending}
+use Rattle.rules.specs.Orders.{Call}
 use Rattle.rules.specs.declared.Done.{Done}
 use Rattle.rules.specs.Calls.{Outcome, prepareOf, rollbackOf, removalOf, publishOf, outcomeOf}
 use Rattle.laws.proofs.Answers.{told-injective}
-use Rattle.refusals.specs.Lending.{LookedAt}
-use Rattle.refusals.proofs.Firsts.{looked-at}
-use Rattle.publish.specs.Promises.{Seen, seen, seenOf, PreparePromise, RollbackPromise, RemovalPromise, PublishPromise, guardedOf, GuardedPromise, CountPromise}
+use Rattle.publish.specs.Promises.{Seen, seen, seenOf, PreparePromise, RollbackPromise, RemovalPromise, PublishPromise, CountPromise}
 
 -- what is seen determines the outcome: numbers tell answers apart
 pub seen-outcome : (r : Done) (t l : List ℕ) (o : Outcome) → seen r t l ≡ seenOf o → outcomeOf r t l ≡ o
@@ -54,21 +51,6 @@ module _ (head : Head) (table : List ℕ) (c : Call) (r r′ : Done) (t t′ l l
 
   pub publish-one-outcome : PublishPromise head table c r t l → PublishPromise head table c r′ t′ l′ → OneOutcome r r′ t t′ l l′
   publish-one-outcome e f = alike r r′ t t′ l l′ (publishOf head table c) e f
-
-pub guarded-one-outcome :
-    (head : Head) (table cs : List ℕ) (paired : Bool) (unheld : ℕ) (strip list : List ℕ) (r r′ : Done) (t t′ l l′ : List ℕ) →
-    GuardedPromise head table cs paired unheld strip list r t l → GuardedPromise head table cs paired unheld strip list r′ t′ l′ →
-    OneOutcome r r′ t t′ l l′
-guarded-one-outcome head table cs paired unheld strip list r r′ t t′ l l′ e f =
-    alike r r′ t t′ l l′ (guardedOf head table cs paired unheld strip list) e f
-
--- a caller who says of the guards what is true of them sees what publish does beside them
-pub guarded-publishes :
-    (head : Head) (table cs gs : List ℕ) (paired : Bool) (unheld : ℕ) (strip list : List ℕ) → LookedAt cs gs paired unheld →
-    guardedOf head table cs paired unheld strip list ≡ publishOf head table (lending cs gs strip list)
-unfolding guardedOf publishOf
-guarded-publishes head table cs gs paired unheld strip list said =
-    rw (looked-at head table cs gs paired unheld strip list said)
 
 pub count-one-outcome :
     (head : Head) (table : List ℕ) (binding key : ℕ) (a b : Answer) → CountPromise head table binding key a →

@@ -1,17 +1,14 @@
 -- What is seen after a call, and what the rules say is seen. The promise of each call is that the two are equal.
 use Prim.Native.Nat.{ℕ}
 use mathlib.Core.Path.{_≡_}
-use mathlib.Core.List.{List, []}
-use mathlib.Core.Bool.{Bool}
+use mathlib.Core.List.{List}
 use Rattle.rules.specs.declared.Head.{Head}
 use Rattle.rules.specs.declared.Answer.{Answer}
 use Rattle.rules.specs.declared.Told.{Told}
 use Rattle.rules.specs.Answers.{toldOf}
 use Rattle.rules.specs.declared.Done.{Done}
-use Rattle.rules.specs.Orders.{changes, destinations, sources, Call, lending}
-use Rattle.rules.specs.Publication.{thenSources}
-use Rattle.rules.specs.Calls.{Outcome, asBefore, unlessRefused, shown, recordAfter, prepared, prepareOf, rollbackOf, removalOf, publishOf, countOf}
-use Rattle.refusals.specs.Lending.{guardedChecks}
+use Rattle.rules.specs.Orders.{Call}
+use Rattle.rules.specs.Calls.{Outcome, prepareOf, rollbackOf, removalOf, publishOf, countOf}
 
 -- the numbers of the answer, the head, and every number of the table and of the record list
 pub record Seen : Type 0 where
@@ -40,17 +37,6 @@ RemovalPromise head table c r tableLeft listLeft = seen r tableLeft listLeft ≡
 
 abbrev pub PublishPromise : Head → List ℕ → Call → Done → List ℕ → List ℕ → Type 0
 PublishPromise head table c r tableLeft listLeft = seen r tableLeft listLeft ≡ seenOf (publishOf head table c)
-
--- publish for a caller that has looked at the guards itself: the same work, after the checks beside what it says of them
-unfoldable pub guardedOf : Head → List ℕ → List ℕ → Bool → ℕ → List ℕ → List ℕ → Outcome
-guardedOf head table cs paired unheld strip list =
-    unlessRefused (guardedChecks head table cs paired unheld strip list) (asBefore head table list)
-    (shown head table (recordAfter (prepared head table (lending cs [] strip list)) (destinations (changes cs)) list)
-    (thenSources strip (sources (changes cs)) (prepared head table (lending cs [] strip list))))
-
-abbrev pub GuardedPromise : Head → List ℕ → List ℕ → Bool → ℕ → List ℕ → List ℕ → Done → List ℕ → List ℕ → Type 0
-GuardedPromise head table cs paired unheld strip list r tableLeft listLeft =
-    seen r tableLeft listLeft ≡ seenOf (guardedOf head table cs paired unheld strip list)
 
 -- a count only reads: its answer is all that is seen
 abbrev pub CountPromise : Head → List ℕ → ℕ → ℕ → Answer → Type 0

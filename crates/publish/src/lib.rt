@@ -7,7 +7,7 @@ use rules::Head;
 use rules::Verdict;
 ghost use mathlib.Core.List.{[]};
 ghost use Rattle.rules.specs.Orders.{lending};
-ghost use Rattle.publish.specs.Promises.{PreparePromise, RollbackPromise, RemovalPromise, PublishPromise, GuardedPromise, CountPromise};
+ghost use Rattle.publish.specs.Promises.{PreparePromise, RollbackPromise, RemovalPromise, PublishPromise, CountPromise};
 
 // Puts the destinations of a change list into the table, all of them or none, and writes their change numbers into the record
 // list. An accepted answer names how many they are.
@@ -78,30 +78,10 @@ pub fn publish(
         (lending (now (changes .entry)) (now (guards .entry)) (now (strip .entry)) (now («record» .entry))) r
         (now (table .exit)) (now («record» .exit)) ⌝ }
 {
-    match refusals::of_publish(head, table, changes, guards, strip, record) {
-        Verdict::Refused(answer) => Done { head, answer },
-        Verdict::Passes => work::publish(head, table, changes, strip, record),
-    }
-}
-
-// Publish for a caller that has looked at the guards itself, as `entry` does: it says whether they are proper, and which change
-// is the first with a key that they do not hold.
-pub fn publish_guarded(
-    head: Head,
-    table: &mut [u32],
-    changes: &[u32],
-    paired: bool,
-    unheld: usize,
-    strip: &[u8],
-    record: &mut [u32],
-) -> Done
-    ensures { λ r. ⌜ GuardedPromise head (now (table .entry)) (now (changes .entry)) paired unheld (now (strip .entry))
-        (now («record» .entry)) r (now (table .exit)) (now («record» .exit)) ⌝ }
-{
-    match refusals::of_guarded_publish(head, table, changes, paired, unheld, strip, record) {
-        Verdict::Refused(answer) => Done { head, answer },
-        Verdict::Passes => work::publish(head, table, changes, strip, record),
-    }
+    let paired = checks::proper_guards(guards);
+    let ordered = refusals::of_order(head, table, changes, paired, strip, record);
+    let guarded = refusals::guarding(ordered, head.bindings, changes, guards);
+    publish_core::publish(head, table, changes, guarded, strip, record)
 }
 
 // How many postings a binding and key have.

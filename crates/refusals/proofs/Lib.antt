@@ -1,2 +1,2 @@
--- The laws of the checks in their order.
+-- The laws of checks in groups.
 pub mod Firsts

@@ -1,6 +1,5 @@
 -- The numbers that an operator sees: for each answer its number and what it names, and what follows from the answer alone.
-use mathlib.Core.Bool.{Bool, _||_}
-use lib.Dec.{eqb}
+use mathlib.Core.Bool.{Bool, true, false}
 use Rattle.rules.specs.declared.Answer.{Answer}
 use Rattle.rules.specs.declared.Told.{Told}
 use Rattle.rules.specs.declared.Verdict.{Verdict}
@@ -23,13 +22,66 @@ toldOf (Answer.Undo i) = record { answer = 12; named = i; other = 0 }
 toldOf (Answer.Source i) = record { answer = 13; named = i; other = 0 }
 toldOf (Answer.Record place) = record { answer = 14; named = place; other = 0 }
 
+-- what an answer tells of the call: it was accepted; a check refused it; storage failed and all was undone; a removal failed
+pub data Class : Type 0 where
+  accepted : Class
+  refused : Class
+  undone : Class
+  broken : Class
+
+-- 0; 1 to 9 and 14; 10 and 11; 12 and 13
+abbrev pub classOf : Answer → Class
+classOf (Answer.Accepted n) = Class.accepted
+classOf Answer.Table = Class.refused
+classOf Answer.Poisoned = Class.refused
+classOf Answer.List = Class.refused
+classOf Answer.Strip = Class.refused
+classOf Answer.Room = Class.refused
+classOf (Answer.Guard i) = Class.refused
+classOf (Answer.Twice i j) = Class.refused
+classOf (Answer.Present i) = Class.refused
+classOf (Answer.Overlap i) = Class.refused
+classOf (Answer.Store i) = Class.undone
+classOf (Answer.Full i) = Class.undone
+classOf (Answer.Undo i) = Class.broken
+classOf (Answer.Source i) = Class.broken
+classOf (Answer.Record place) = Class.refused
+
+-- the call did what it was asked
+abbrev pub accepts : Class → Bool
+accepts Class.accepted = true
+accepts Class.refused = false
+accepts Class.undone = false
+accepts Class.broken = false
+
+-- a check refused it
+abbrev pub refuses : Class → Bool
+refuses Class.accepted = false
+refuses Class.refused = true
+refuses Class.undone = false
+refuses Class.broken = false
+
+-- all is as before
+abbrev pub changesNothing : Class → Bool
+changesNothing Class.accepted = false
+changesNothing Class.refused = true
+changesNothing Class.undone = true
+changesNothing Class.broken = false
+
+-- the poison flag is set
+abbrev pub breaks : Class → Bool
+breaks Class.accepted = false
+breaks Class.refused = false
+breaks Class.undone = false
+breaks Class.broken = true
+
 -- 0
 abbrev pub isAccepted : Answer → Bool
-isAccepted a = eqb (toldOf a .answer) 0
+isAccepted a = accepts (classOf a)
 
 -- 12 and 13
 abbrev pub poisons : Answer → Bool
-poisons a = eqb (toldOf a .answer) 12 || eqb (toldOf a .answer) 13
+poisons a = breaks (classOf a)
 
 -- the refusal, or else this answer
 abbrev pub settled : Verdict → Answer → Answer

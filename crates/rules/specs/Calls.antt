@@ -64,34 +64,45 @@ module _ (head : Head) (table : List ℕ) (c : Call) where
   prepared =
       preparing (capacity table) (c .strip) (destinations (changesOf c)) [] 0 (postings (head .used) table)
 
-  -- prepare_index_destinations
-  unfoldable pub prepareOf : Outcome
-  prepareOf =
-      unlessRefused (prepareChecks head table c) (asBefore head table (c .recordList))
-      (shown head table (recordAfter prepared (destinations (changesOf c)) (c .recordList)) prepared)
+  -- what each call does that no check refused: prepare, with its record
+  abbrev pub prepareWork : Outcome
+  prepareWork = shown head table (recordAfter prepared (destinations (changesOf c)) (c .recordList)) prepared
 
-  -- rollback_index_destinations: over its record from the end to the start
-  unfoldable pub rollbackOf : Outcome
-  rollbackOf =
-      unlessRefused (rollbackChecks head table c) (asBefore head table (c .recordList))
-      (shown head table (c .recordList)
+  -- rollback, over its record from the end to the start
+  abbrev pub rollbackWork : Outcome
+  rollbackWork =
+      shown head table (c .recordList)
       (rolledBack
       (undoing (c .strip) (reverse (recorded (changesOf c) (c .recordList))) Verdict.Passes 0
-      (postings (head .used) table))))
+      (postings (head .used) table)))
+
+  -- source removal
+  abbrev pub removalWork : Outcome
+  removalWork =
+      shown head table (c .recordList)
+      (removing (c .strip) (Answer.Accepted 0) (sources (changesOf c)) 0 (postings (head .used) table))
+
+  -- publish: prepare, then source removal
+  abbrev pub publishWork : Outcome
+  publishWork =
+      shown head table (recordAfter prepared (destinations (changesOf c)) (c .recordList))
+      (thenSources (c .strip) (sources (changesOf c)) prepared)
+
+  -- the calls: prepare_index_destinations
+  unfoldable pub prepareOf : Outcome
+  prepareOf = unlessRefused (prepareChecks head table c) (asBefore head table (c .recordList)) prepareWork
+
+  -- rollback_index_destinations
+  unfoldable pub rollbackOf : Outcome
+  rollbackOf = unlessRefused (rollbackChecks head table c) (asBefore head table (c .recordList)) rollbackWork
 
   -- remove_index_sources
   unfoldable pub removalOf : Outcome
-  removalOf =
-      unlessRefused (removalChecks head table c) (asBefore head table (c .recordList))
-      (shown head table (c .recordList)
-      (removing (c .strip) (Answer.Accepted 0) (sources (changesOf c)) 0 (postings (head .used) table)))
+  removalOf = unlessRefused (removalChecks head table c) (asBefore head table (c .recordList)) removalWork
 
-  -- publish: prepare, then source removal
+  -- publish
   unfoldable pub publishOf : Outcome
-  publishOf =
-      unlessRefused (publishChecks head table c) (asBefore head table (c .recordList))
-      (shown head table (recordAfter prepared (destinations (changesOf c)) (c .recordList))
-      (thenSources (c .strip) (sources (changesOf c)) prepared))
+  publishOf = unlessRefused (publishChecks head table c) (asBefore head table (c .recordList)) publishWork
 
 -- count: how many postings a binding and key have; an absent key has 0
 unfoldable pub countOf : Head → List ℕ → ℕ → ℕ → Answer

@@ -69,8 +69,12 @@ idle h table = try publishOf h table [] [] blank
 abbrev pub publish : List ℕ → List ℕ → Row
 publish cs strip = try publishOf (head 2 2 0) whole cs strip blank
 
+-- under other guards
+abbrev pub under : (Head → List ℕ → Call → Outcome) → List ℕ → List ℕ → Row
+under call gs cs = seen (call (head 2 2 0) whole (lending cs gs [] blank))
+
 abbrev pub publishUnder : List ℕ → List ℕ → Row
-publishUnder gs cs = seen (publishOf (head 2 2 0) whole (lending cs gs [] blank))
+publishUnder gs cs = under publishOf gs cs
 
 abbrev pub prepare : List ℕ → List ℕ → Row
 prepare cs strip = try prepareOf (head 2 2 0) whole cs strip blank
@@ -106,12 +110,15 @@ pub answer-1-table :
     (idle (head 2 4294967295 0) whole gives row 1 0 4294967295 0 whole blank
     -- used one above the capacity
     ∷ idle (head 2 3 0) short gives row 1 0 3 0 short blank
-    -- a poison flag that is neither 0 nor 1: 1, not 2
+    -- a poison flag that is neither 0 nor 1: 1, not 2, be it even or odd
     ∷ idle (head 2 2 2) whole gives row 1 0 2 2 whole blank
+    ∷ idle (head 2 2 3) whole gives row 1 0 2 3 whole blank
+    ∷ idle (head 2 2 4294967295) whole gives row 1 0 2 4294967295 whole blank
     -- not well formed and poisoned: 1, not 2
     ∷ idle (head 2 3 1) short gives row 1 0 3 1 short blank
-    -- a length that is no multiple of 3
+    -- a length that is no multiple of 3: 7 and 8
     ∷ idle (head 2 2 0) (short ++ 0 ∷ []) gives row 1 0 2 0 (short ++ 0 ∷ []) blank
+    ∷ idle (head 2 2 0) (short ++ 0 ∷ 0 ∷ []) gives row 1 0 2 0 (short ++ 0 ∷ 0 ∷ []) blank
     -- binding count 65; 64 is the most
     ∷ idle (head 65 2 0) whole gives row 1 0 2 0 whole blank
     ∷ idle (head 64 2 0) whole gives row 0 0 2 0 whole blank
@@ -123,9 +130,11 @@ pub answer-1-table :
     -- the key comes before the row, the binding before the key
     ∷ idle (head 2 2 0) (cell 0 6 1 ++ cell 0 5 2) gives row 1 0 2 0 (cell 0 6 1 ++ cell 0 5 2) blank
     ∷ idle (head 2 2 0) (cell 0 6 2 ++ cell 1 5 1) gives row 0 0 2 0 (cell 0 6 2 ++ cell 1 5 1) blank
-    -- a number past used that is not 0, be it a whole posting's or one alone
+    -- a number past used that is not 0, be it a whole posting's or one alone: a row, a key, a binding
     ∷ idle (head 2 1 0) whole gives row 1 0 1 0 whole blank
     ∷ idle (head 2 1 0) (cell 0 5 1 ++ cell 0 0 1) gives row 1 0 1 0 (cell 0 5 1 ++ cell 0 0 1) blank
+    ∷ idle (head 2 1 0) (cell 0 5 1 ++ cell 0 1 0) gives row 1 0 1 0 (cell 0 5 1 ++ cell 0 1 0) blank
+    ∷ idle (head 2 1 0) (cell 0 5 1 ++ cell 1 0 0) gives row 1 0 1 0 (cell 0 5 1 ++ cell 1 0 0) blank
     -- a binding that is not below the count
     ∷ idle (head 1 2 0) (cell 0 5 1 ++ cell 1 9 7) gives row 1 0 2 0 (cell 0 5 1 ++ cell 1 9 7) blank
     -- three zeros are a posting where used covers them
@@ -157,6 +166,11 @@ pub answer-3-list :
     -- a flag of 2, before and after
     (publish (0 ∷ 1 ∷ 2 ∷ 5 ∷ 0 ∷ 0 ∷ []) [] gives unchanged 3 0
     ∷ publish (0 ∷ 1 ∷ 1 ∷ 5 ∷ 2 ∷ 6 ∷ []) [] gives unchanged 3 0
+    -- an odd flag that is not 1 is no more taken for 1
+    ∷ publish (0 ∷ 1 ∷ 3 ∷ 5 ∷ 0 ∷ 0 ∷ []) [] gives unchanged 3 0
+    ∷ publish (0 ∷ 1 ∷ 1 ∷ 5 ∷ 3 ∷ 6 ∷ []) [] gives unchanged 3 0
+    ∷ publish (0 ∷ 1 ∷ 4294967295 ∷ 5 ∷ 0 ∷ 0 ∷ []) [] gives unchanged 3 0
+    ∷ publish (0 ∷ 1 ∷ 1 ∷ 5 ∷ 4294967295 ∷ 6 ∷ []) [] gives unchanged 3 0
     -- flag 0 with a key that is not 0, before and after
     ∷ publish (0 ∷ 1 ∷ 0 ∷ 5 ∷ 1 ∷ 6 ∷ []) [] gives unchanged 3 0
     ∷ publish (0 ∷ 1 ∷ 1 ∷ 5 ∷ 0 ∷ 6 ∷ []) [] gives unchanged 3 0
@@ -169,6 +183,13 @@ pub answer-3-list :
     -- an odd number of guard numbers, even where no guard is needed
     ∷ publishUnder (0 ∷ 5 ∷ 0 ∷ []) (take 0 5 1) gives unchanged 3 0
     ∷ publishUnder (0 ∷ []) [] gives unchanged 3 0
+    -- and so of prepare, rollback and removal
+    ∷ under prepareOf (0 ∷ 5 ∷ 0 ∷ []) (take 0 5 1) gives unchanged 3 0
+    ∷ under prepareOf (0 ∷ []) [] gives unchanged 3 0
+    ∷ under rollbackOf (0 ∷ 5 ∷ 0 ∷ []) (take 0 5 1) gives unchanged 3 0
+    ∷ under rollbackOf (0 ∷ []) [] gives unchanged 3 0
+    ∷ under removalOf (0 ∷ 5 ∷ 0 ∷ []) (take 0 5 1) gives unchanged 3 0
+    ∷ under removalOf (0 ∷ []) [] gives unchanged 3 0
     -- guards may have any binding and may be repeated
     ∷ publishUnder (9 ∷ 9 ∷ 0 ∷ 5 ∷ 0 ∷ 5 ∷ []) (take 0 5 9) gives unchanged 0 0
     -- 3 before 4
@@ -524,6 +545,8 @@ pub counts :
     -- 2 before 6, and 1 before 2
     ∷ count (head 2 2 1) whole 2 5 gives told 2 0
     ∷ count (head 2 3 1) short 2 5 gives told 1 0
+    -- a poison flag of 3 is no flag: 1
+    ∷ count (head 2 2 3) whole 0 5 gives told 1 0
     ∷ [])
 unfolding computing
 counts = refl
@@ -581,14 +604,28 @@ answerTo cs gs strip list = toldOf (publishOf (head 2 2 0) whole (lending cs gs 
 abbrev pub answerOn : ℕ → Told
 answerOn size = toldOf (publishOf (head 2 0 0) (replicate size 0) (lending [] [] [] []) .answer)
 
+-- and to a call that lends so many zeros for its guards, and nothing else
+abbrev pub answerUnder : (Head → List ℕ → Call → Outcome) → ℕ → Told
+answerUnder call size = toldOf (call (head 2 2 0) whole (lending [] (replicate size 0) [] []) .answer)
+
 pub limits :
     Hold
     -- 1,024 bytes
     (answerTo [] [] (replicate 1024 0) [] gives told 0 0
     ∷ answerTo [] [] (replicate 1025 0) [] gives told 4 0
-    -- 1,024 guards of two numbers each
-    ∷ answerTo [] (replicate 2048 0) [] [] gives told 0 0
-    ∷ answerTo [] (replicate 2050 0) [] [] gives told 3 0
+    -- 1,024 guards of two numbers each, in every call; 1,024 guards and one number are odd
+    ∷ answerUnder publishOf 2048 gives told 0 0
+    ∷ answerUnder publishOf 2049 gives told 3 0
+    ∷ answerUnder publishOf 2050 gives told 3 0
+    ∷ answerUnder prepareOf 2048 gives told 0 0
+    ∷ answerUnder prepareOf 2049 gives told 3 0
+    ∷ answerUnder prepareOf 2050 gives told 3 0
+    ∷ answerUnder rollbackOf 2048 gives told 0 0
+    ∷ answerUnder rollbackOf 2049 gives told 3 0
+    ∷ answerUnder rollbackOf 2050 gives told 3 0
+    ∷ answerUnder removalOf 2048 gives told 0 0
+    ∷ answerUnder removalOf 2049 gives told 3 0
+    ∷ answerUnder removalOf 2050 gives told 3 0
     -- 256 changes of six numbers each
     ∷ answerTo (replicate 1536 0) [] [] (replicate 256 77) gives told 0 0
     ∷ answerTo (replicate 1542 0) [] [] (replicate 257 77) gives told 3 0

@@ -50,10 +50,10 @@ guards (binding ∷ key ∷ rest) = record { binding = binding; key = key } ∷ 
 unfoldable pub properGuards : List ℕ → Bool
 properGuards guardList = eqb (length guardList % 2) 0 && leb (length (guards guardList)) mostGuards
 
--- a well-formed change list, not over its limit, and such guards
-unfoldable pub properLists : List ℕ → List ℕ → Bool
-properLists changeList guardList =
-    properChanges changeList && leb (length (changes changeList)) mostChanges && properGuards guardList
+-- a well-formed change list, not over its limit, beside guards that are such or not
+unfoldable pub properLists : List ℕ → Bool → Bool
+properLists changeList paired =
+    properChanges changeList && leb (length (changes changeList)) mostChanges && paired
 
 -- the pair (binding, key) is among the guards
 unfoldable pub held : ℕ → ℕ → List Guard → Bool

@@ -60,13 +60,13 @@ const RIGHT: &str = "\
 2 (`told-injective` (laws, Answers)), not `this`; `check_guards` (checks, src), not `that` (or that)
 2 `prepare-clauses` .okRecord, .okNamed, `prefix-record` (history, Upstream)
 1 `refreshed-clauses` .pass .valid, .pass .yes, .yesSame (lane_laws, Upstream)
-3 `View` (lane_rules, src), `MOST_INPUT` (buckets, src), `asdrifen_count` (exports, src)
+3 `View` (lane_rules, src), `MOST_INPUT` (buckets, src), `asdrifen_count` (exports_postings, src)
 1 edit `always-25` (lane_rules, passes)
 2 (edits `always-25`, `rounds-made-up` (passes))
 2 edit `always-25` (passes) and `count-named` (buckets)
 3 edit `count-named` (buckets), `any-bad-element` (bucket_laws), `range` (bucket_rules, Examples)
 2 test `small_views`, `edge_views` (comparison)
-0 the promise of that name (exports, Promises)
+0 the promise of that name (exports_lanes, Promises)
 ";
 
 #[test]
@@ -108,7 +108,7 @@ fn a_wrong_file_is_reported() {
         "\
 `guard-names` (laws, Calls) => no guard-names in (laws, Calls)
 `guard-names` (laws, Called) => no (laws, Called)
-the lemmas of (exports, Outcome) => no (exports, Outcome)",
+the lemmas of (exports_lent, Outcome) => no (exports_lent, Outcome)",
     );
 }
 

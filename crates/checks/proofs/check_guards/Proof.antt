@@ -5,7 +5,7 @@ use mathlib.Core.Bool.{true, false}
 use mathlib.Core.Path.{_≡_, sym, _∙_}
 use lib.ListN.{drop}
 use borrow.Author.Needs.{needs}
-use Rattle.rules.specs.Checks.{firstFailing, guarded}
+use Rattle.rules.specs.Checks.{firstFailing, guarded, guardCheck}
 use Rattle.rules.specs.Orders.{changes, guards, noChange}
 use Rattle.rules.specs.declared.Answer.{Answer}
 use Rattle.checks.proofs.Failing.{failing-left, failing-none}
@@ -53,6 +53,7 @@ cast-t9 : tie.Need-cast-t9 Inv-loop μ-loop
 cast-t9 c = search needs
 
 returns : tie.Need-returns Inv-loop μ-loop
+unfolding guardCheck
 returns c =
     let at = c .before .before .before .before in
     let start = at .before .before .before .before in
@@ -62,6 +63,7 @@ returns c =
     (omega arith) (read .ensures) (sym (c .before .is-guarded .ensures) ∙ c .if1 .left))
 
 returns-2 : tie.Need-returns-2 Inv-loop μ-loop
+unfolding guardCheck
 returns-2 c =
     let at = c .before in
     sym

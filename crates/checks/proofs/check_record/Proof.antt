@@ -5,7 +5,7 @@ use mathlib.Core.List.{[]}
 use mathlib.Core.Path.{_≡_, sym, _∙_}
 use lib.ListN.{length}
 use borrow.Author.Needs.{needs}
-use Rattle.rules.specs.Checks.{recordFrom}
+use Rattle.rules.specs.Checks.{recordFrom, recordCheck}
 use Rattle.rules.specs.Orders.{changes}
 use Rattle.checks.proofs.Few.{Few}
 use Rattle.checks.proofs.Numbers.{behind, recordLeft, few-none, few-places, record-all, place-passes, record-means-nothing, record-repeats, record-more, record-none}
@@ -41,6 +41,7 @@ cast-t11 c =
     omega (arith, few-places _ (at .loop .place) _ (at .loop .inv .1))
 
 returns : tie.Need-returns Inv-loop μ-loop
+unfolding recordCheck
 returns c =
     let at = c .before .before .before .before .before .before in
     let start = at .before .before .before in
@@ -73,6 +74,7 @@ cast-t13 c =
     omega (arith, few-places _ (at .loop .place) _ (at .loop .inv .1))
 
 returns-2 : tie.Need-returns-2 Inv-loop μ-loop
+unfolding recordCheck
 returns-2 c =
     let at = c .before .before .before .before in
     let start = at .before .before .before in
@@ -81,6 +83,7 @@ returns-2 c =
     (at .loop .place) (omega arith) (sym (c .before .is-recordable .ensures) ∙ c .if1 .left))
 
 returns-3 : tie.Need-returns-3 Inv-loop μ-loop
+unfolding recordCheck
 returns-3 c =
     let at = c .before in
     let start = at .before .before .before in

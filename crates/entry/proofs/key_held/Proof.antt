@@ -41,11 +41,11 @@ use denote.Exit.{yes}
 use Rattle.rules.specs.declared.Guard.{Guard}
 use Rattle.rules.specs.Orders.{held}
 use Rattle.rules.proofs.Guard as T
-use Rattle.entry.specs.declared.guarding.Wanted.{Wanted}
-use Rattle.entry.specs.Asking.{wantedHeld}
-use Rattle.entry.proofs.Asking.{named-held, none-held}
-use Rattle.entry.proofs.guarding.Wanted as N
-use Rattle.entry.proofs.guarding.Wanted.Laws as N′
+use Rattle.guarding.specs.declared.Wanted.{Wanted}
+use Rattle.guarding.specs.Asking.{wantedHeld}
+use Rattle.guarding.proofs.Asking.{named-held, none-held}
+use Rattle.guarding.proofs.Wanted as N
+use Rattle.guarding.proofs.Wanted.Laws as N′
 use Rattle.entry.proofs.held as among
 use Rattle.entry.proofs.held.Symbol as among-def
 use Rattle.entry.proofs.held.Symbol.{name as #entry·held}

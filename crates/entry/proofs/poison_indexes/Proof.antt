@@ -33,7 +33,7 @@ use denote.Triple.Spec.{Meets, tripleOf}
 use denote.Triple.Table.{entered}
 use denote.Triple.Walked.{says, Stays, stay-ref, walkOf, AllGo, goes-ref, Walks, ends-at, walked, walk-meets}
 use Rattle.rules.specs.declared.Head.{Head}
-use Rattle.entry.specs.Promises.{poisonedHead}
+use Rattle.guarding.specs.InPlace.{poisonedHead}
 use Rattle.rules.proofs.Head as T
 use Rattle.rules.proofs.Head.Laws as T′
 use Rattle.entry.proofs.poison_indexes.Key.{name as #entry·poison-indexes}

@@ -3,7 +3,7 @@ use mathlib.Core.Path.{sym, ap, _∙_}
 use borrow.Author.Needs.{needs}
 use Rattle.rules.specs.Answers.{toldOf}
 use Rattle.rules.specs.Calls.{countOf}
-use Rattle.refusals.proofs.Firsts.{count-formed}
+use Rattle.laws.proofs.Checks.{count-formed}
 use Rattle.publish.proofs.count.Statement.{statement}
 use Rattle.publish.proofs.count.Tie as tie
 

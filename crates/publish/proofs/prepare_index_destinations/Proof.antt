@@ -2,8 +2,7 @@
 use mathlib.Core.Path.{sym, ap, _∙_}
 use borrow.Author.Needs.{needs}
 use Rattle.rules.specs.Calls.{prepareOf}
-use Rattle.laws.proofs.Checks.{prepare-clear}
-use Rattle.refusals.proofs.Firsts.{prepare-few}
+use Rattle.refusals.proofs.Firsts.{prepare-ready}
 use Rattle.publish.specs.Promises.{seenOf}
 use Rattle.publish.proofs.prepare_index_destinations.Statement.{statement}
 use Rattle.publish.proofs.prepare_index_destinations.Tie as tie
@@ -18,9 +17,7 @@ enum-told : tie.Need-enum-told
 enum-told c = search needs
 
 prepare-requires : tie.Need-prepare-requires
-prepare-requires c κs =
-    let p = (sym (c .before .before .before .before .of-prepare .ensures) ∙ c .before .before .enum-told .given .1) in
-    (prepare-clear _ _ _ p .formed, (prepare-few _ _ _ _ _ _ p, prepare-clear _ _ _ p .places))
+prepare-requires c κs = prepare-ready _ _ _ (sym (c .before .before .before .before .of-prepare .ensures) ∙ c .before .before .enum-told .given .1)
 
 same-length : tie.Need-same-length
 same-length c = search needs

@@ -1,26 +1,23 @@
--- The refusal, or else the work.
-use mathlib.Core.Path.{sym, ap, _∙_}
-use borrow.Author.Needs.{needs}
-use Rattle.rules.specs.Calls.{publishOf}
-use Rattle.laws.proofs.Checks.{publish-clear}
-use Rattle.refusals.proofs.Firsts.{publish-few}
+-- The order, then what the guards hold, then the core.
+use mathlib.Core.Path.{refl, sym, ap, _∙_}
+use Rattle.refusals.proofs.Firsts.{one, joined}
+use Rattle.publish_core.proofs.Publishing.{order-ready, asked-ready, core-publishes}
 use Rattle.publish.specs.Promises.{seenOf}
+use borrow.Author.Needs.{needs}
 use Rattle.publish.proofs.publish.Statement.{statement}
 use Rattle.publish.proofs.publish.Tie as tie
 
-of-publish-requires : tie.Need-of-publish-requires
-of-publish-requires c κs = search needs
+proper-guards-requires : tie.Need-proper-guards-requires
+proper-guards-requires c κs = search needs
 
-enum-known-answer : tie.Need-enum-known-answer
-enum-known-answer c = search needs
+of-order-requires : tie.Need-of-order-requires
+of-order-requires c κs = search needs
 
-enum-told : tie.Need-enum-told
-enum-told c = search needs
+guarding-requires : tie.Need-guarding-requires
+guarding-requires c κs = λ p. order-ready _ _ _ _ _ _ (sym (c .of-order .ensures) ∙ p) .few
 
 publish-requires : tie.Need-publish-requires
-publish-requires c κs =
-    let p = (sym (c .before .before .before .before .of-publish .ensures) ∙ c .before .before .enum-told .given .1) in
-    (publish-clear _ _ _ p .formed, (publish-few _ _ _ _ _ _ p, publish-clear _ _ _ p .places))
+publish-requires c κs = λ p. asked-ready _ _ _ _ _ _ _ (sym (joined _ _ (one _ (c .before .before .before .of-order .ensures)) (c .before .before .guarding .ensures)) ∙ p)
 
 same-length : tie.Need-same-length
 same-length c = search needs
@@ -29,34 +26,16 @@ same-length-2 : tie.Need-same-length-2
 same-length-2 c = search needs
 
 returns : tie.Need-returns
-unfolding publishOf
-returns c = rw (sym (c .before .before .before .of-publish .ensures) ∙ c .before .answer .given .1)
-
-same-length-3 : tie.Need-same-length-3
-same-length-3 c = search needs
-
-same-length-4 : tie.Need-same-length-4
-same-length-4 c = search needs
-
-returns-2 : tie.Need-returns-2
-unfolding publishOf
-returns-2 c =
-    rw
-    (sym (c .before .before .before .before .before .before .before .before .before .of-publish .ensures) ∙ c .before .before
-    .before .before .before .before .before .enum-told .given .1)
-    (ap seenOf (c .before .before .before .before .publish .ensures))
+returns c = ap seenOf (c .before .before .before .before .publish .ensures ∙ core-publishes _ _ _ _ _ _ _ _ _ (joined _ _ (one _ (c .before .before .before .before .before .before .before .before .of-order .ensures)) (c .before .before .before .before .before .before .before .guarding .ensures)) (c .before .before .before .before .before .before .before .before .before .before .before .proper-guards .ensures) (λ _. refl))
 
 pub publish-spec : {M : Type 1} → statement M
 publish-spec =
     tie.close
     (tie.spec
-    of-publish-requires
-    enum-known-answer
-    enum-told
+    proper-guards-requires
+    of-order-requires
+    guarding-requires
     publish-requires
     same-length
     same-length-2
-    returns
-    same-length-3
-    same-length-4
-    returns-2)
+    returns)

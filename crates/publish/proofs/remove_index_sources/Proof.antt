@@ -2,8 +2,7 @@
 use mathlib.Core.Path.{sym, ap, _∙_}
 use borrow.Author.Needs.{needs}
 use Rattle.rules.specs.Calls.{removalOf}
-use Rattle.laws.proofs.Checks.{removal-formed}
-use Rattle.refusals.proofs.Firsts.{removal-few}
+use Rattle.refusals.proofs.Firsts.{removal-ready}
 use Rattle.publish.specs.Promises.{seenOf}
 use Rattle.publish.proofs.remove_index_sources.Statement.{statement}
 use Rattle.publish.proofs.remove_index_sources.Tie as tie
@@ -18,9 +17,7 @@ enum-told : tie.Need-enum-told
 enum-told c = search needs
 
 remove-requires : tie.Need-remove-requires
-remove-requires c κs =
-    let p = (sym (c .before .before .before .of-removal .ensures) ∙ c .before .enum-told .given .1) in
-    (removal-formed _ _ _ p .0, removal-few _ _ _ _ _ _ p)
+remove-requires c κs = removal-ready _ _ _ (sym (c .before .before .before .of-removal .ensures) ∙ c .before .enum-told .given .1)
 
 same-length : tie.Need-same-length
 same-length c = search needs

@@ -2,8 +2,7 @@
 use mathlib.Core.Path.{sym, ap, _∙_}
 use borrow.Author.Needs.{needs}
 use Rattle.rules.specs.Calls.{rollbackOf}
-use Rattle.laws.proofs.Checks.{rollback-formed}
-use Rattle.refusals.proofs.Firsts.{rollback-few, rollback-below}
+use Rattle.refusals.proofs.Firsts.{rollback-ready}
 use Rattle.publish.specs.Promises.{seenOf}
 use Rattle.publish.proofs.rollback_index_destinations.Statement.{statement}
 use Rattle.publish.proofs.rollback_index_destinations.Tie as tie
@@ -18,9 +17,7 @@ enum-told : tie.Need-enum-told
 enum-told c = search needs
 
 rollback-requires : tie.Need-rollback-requires
-rollback-requires c κs =
-    let p = (sym (c .before .before .before .of-rollback .ensures) ∙ c .before .enum-told .given .1) in
-    (rollback-formed _ _ _ p .0, (rollback-few _ _ _ _ _ _ p, rollback-below _ _ _ _ _ _ p))
+rollback-requires c κs = rollback-ready _ _ _ (sym (c .before .before .before .of-rollback .ensures) ∙ c .before .enum-told .given .1)
 
 same-length : tie.Need-same-length
 same-length c = search needs

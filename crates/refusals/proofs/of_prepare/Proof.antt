@@ -1,53 +1,44 @@
--- Part by part, to the first that refuses.
-use mathlib.Core.Bool.{Bool}
-use mathlib.Core.Path.{sym, ap, _∙_}
-use Rattle.rules.specs.Checks.{guardCheck}
-use Rattle.refusals.proofs.Firsts.{ends, goes-on, ofOrder, ofDestinations, prepare-parts, order-formed, order-few}
+-- Group after group.
+use mathlib.Core.Path.{sym, _∙_}
+use Rattle.rules.specs.Checks.{prepareChecks}
+use Rattle.table.proofs.Keeping.{well-formed-ordered}
+use Rattle.laws.proofs.Checks.{passed, opened}
+use Rattle.refusals.proofs.Firsts.{one, joined, lent-few}
 use borrow.Author.Needs.{needs}
 use Rattle.refusals.proofs.of_prepare.Statement.{statement}
 use Rattle.refusals.proofs.of_prepare.Tie as tie
 
+opening-requires : tie.Need-opening-requires
+opening-requires c κs = search needs
+
 proper-guards-requires : tie.Need-proper-guards-requires
 proper-guards-requires c κs = search needs
 
-of-order-requires : tie.Need-of-order-requires
-of-order-requires c κs = search needs
+lent-requires : tie.Need-lent-requires
+lent-requires c κs = search needs
 
-enum-told : tie.Need-enum-told
-enum-told c = search needs
+room-requires : tie.Need-room-requires
+room-requires c κs = search needs
 
-enum-told-2 : tie.Need-enum-told-2
-enum-told-2 c = search needs
+guarding-requires : tie.Need-guarding-requires
+guarding-requires c κs = λ p. lent-few _ _ _ (passed _ (sym (joined _ _ (joined _ _ (one _ (c .before .before .before .opening .ensures)) (c .before .lent .ensures)) (c .room .ensures)) ∙ p) .1 .0)
+
+arriving-requires : tie.Need-arriving-requires
+arriving-requires c κs = let before = joined _ _ (joined _ _ (joined _ _ (one _ (c .before .before .before .before .opening .ensures)) (c .before .before .lent .ensures)) (c .before .room .ensures)) (c .guarding .ensures) in
+    ((λ p. well-formed-ordered _ _ (opened _ _ (passed _ (sym before ∙ p) .0) .0)), (λ p. lent-few _ _ _ (passed _ (sym before ∙ p) .1 .0)))
 
 returns : tie.Need-returns
-returns c =
-    ends _ (c .before .before .of-order .ensures ∙ ap (λ (b : Bool). ofOrder (c .before .before .before .before .before .before .before .before .before .args .head) (c .before .before .before .before .before .before .before .before .before .args .table .now) (c .before .before .before .before .before .before .before .before .before .args .list .now) b (c .before .before .before .before .before .before .before .before .before .args .strip .now) (c .before .before .before .before .before .before .before .before .before .args .record .now)) (c .before .before .before .proper-guards .ensures)) (c .enum-told2 .given .1) ∙ sym (prepare-parts (c .before .before .before .before .before .before .before .before .before .args .head) (c .before .before .before .before .before .before .before .before .before .args .table .now) (c .before .before .before .before .before .before .before .before .before .args .list .now) (c .before .before .before .before .before .before .before .before .before .args .pairs .now) (c .before .before .before .before .before .before .before .before .before .args .strip .now) (c .before .before .before .before .before .before .before .before .before .args .record .now))
-
-check-guards-requires : tie.Need-check-guards-requires
-check-guards-requires c κs =
-    order-few _ _ _ _ _ _ (sym (c .before .before .of-order .ensures) ∙ c .enum-told .given .1)
-
-of-destinations-requires : tie.Need-of-destinations-requires
-of-destinations-requires c κs =
-    let p = sym (c .before .before .before .of-order .ensures) ∙ c .before .enum-told .given .1 in
-    (order-formed _ _ _ _ _ _ p, order-few _ _ _ _ _ _ p)
-
-returns-2 : tie.Need-returns-2
-unfolding guardCheck
-returns-2 c =
-    goes-on (c .before .before .before .before .of-order .ensures ∙ ap (λ (b : Bool). ofOrder (c .before .before .before .before .before .before .before .before .before .before .before .args .head) (c .before .before .before .before .before .before .before .before .before .before .before .args .table .now) (c .before .before .before .before .before .before .before .before .before .before .before .args .list .now) b (c .before .before .before .before .before .before .before .before .before .before .before .args .strip .now) (c .before .before .before .before .before .before .before .before .before .before .before .args .record .now)) (c .before .before .before .before .before .proper-guards .ensures)) (c .before .before .enum-told .given .1)
-    (c .of-destinations .ensures ∙ ap (ofDestinations (c .before .before .before .before .before .before .before .before .before .before .before .args .head) (c .before .before .before .before .before .before .before .before .before .before .before .args .table .now) (c .before .before .before .before .before .before .before .before .before .before .before .args .list .now)) (c .before .check-guards .ensures))
-    ∙ sym (prepare-parts (c .before .before .before .before .before .before .before .before .before .before .before .args .head) (c .before .before .before .before .before .before .before .before .before .before .before .args .table .now) (c .before .before .before .before .before .before .before .before .before .before .before .args .list .now) (c .before .before .before .before .before .before .before .before .before .before .before .args .pairs .now) (c .before .before .before .before .before .before .before .before .before .before .before .args .strip .now) (c .before .before .before .before .before .before .before .before .before .before .before .args .record .now))
+unfolding prepareChecks
+returns c = rw (← c .before .before .before .before .proper-guards .ensures) (joined _ _ (joined _ _ (joined _ _ (joined _ _ (one _ (c .before .before .before .before .before .opening .ensures)) (c .before .before .before .lent .ensures)) (c .before .before .room .ensures)) (c .before .guarding .ensures)) (c .arriving .ensures))
 
 pub of-prepare-spec : {M : Type 1} → statement M
 of-prepare-spec =
     tie.close
     (tie.spec
+    opening-requires
     proper-guards-requires
-    of-order-requires
-    enum-told
-    enum-told-2
-    returns
-    check-guards-requires
-    of-destinations-requires
-    returns-2)
+    lent-requires
+    room-requires
+    guarding-requires
+    arriving-requires
+    returns)

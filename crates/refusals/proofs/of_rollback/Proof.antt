@@ -1,46 +1,38 @@
--- The checks of removal, then the record.
+-- Group after group.
 use mathlib.Core.Path.{sym, _∙_}
+use Rattle.rules.specs.Checks.{rollbackChecks}
+use Rattle.laws.proofs.Checks.{passed}
+use Rattle.refusals.proofs.Firsts.{one, joined, lent-few}
 use borrow.Author.Needs.{needs}
-use Rattle.rules.specs.Checks.{recordCheck}
-use Rattle.refusals.proofs.Firsts.{ends, goes-on, rollback-parts, removal-few}
 use Rattle.refusals.proofs.of_rollback.Statement.{statement}
 use Rattle.refusals.proofs.of_rollback.Tie as tie
 
-of-removal-requires : tie.Need-of-removal-requires
-of-removal-requires c κs = search needs
+opening-requires : tie.Need-opening-requires
+opening-requires c κs = search needs
 
-enum-told : tie.Need-enum-told
-enum-told c = search needs
+proper-guards-requires : tie.Need-proper-guards-requires
+proper-guards-requires c κs = search needs
 
-enum-told-2 : tie.Need-enum-told-2
-enum-told-2 c = search needs
+lent-requires : tie.Need-lent-requires
+lent-requires c κs = search needs
+
+guarding-requires : tie.Need-guarding-requires
+guarding-requires c κs = λ p. lent-few _ _ _ (passed _ (sym (joined _ _ (one _ (c .before .before .opening .ensures)) (c .lent .ensures)) ∙ p) .1 .0)
+
+recording-requires : tie.Need-recording-requires
+recording-requires c κs = λ p. lent-few _ _ _ (passed _ (sym (joined _ _ (joined _ _ (one _ (c .before .before .before .opening .ensures)) (c .before .lent .ensures)) (c .guarding .ensures)) ∙ p) .1 .0)
 
 returns : tie.Need-returns
-returns c =
-    ends _ (c .before .before .of-removal .ensures) (c .enum-told2 .given .1) ∙ sym
-    (rollback-parts (c .before .before .before .before .before .before .before .before .args .head)
-    (c .before .before .before .before .before .before .before .before .args .table .now)
-    (c .before .before .before .before .before .before .before .before .args .list .now)
-    (c .before .before .before .before .before .before .before .before .args .pairs .now)
-    (c .before .before .before .before .before .before .before .before .args .strip .now)
-    (c .before .before .before .before .before .before .before .before .args .record .now))
-
-check-record-requires : tie.Need-check-record-requires
-check-record-requires c κs = removal-few _ _ _ _ _ _ (sym (c .before .before .of-removal .ensures) ∙ c .enum-told .given .1)
-
-returns-2 : tie.Need-returns-2
-unfolding recordCheck
-returns-2 c =
-    goes-on (c .before .before .before .of-removal .ensures) (c .before .enum-told .given .1) (c .check-record .ensures) ∙
-    sym
-    (rollback-parts (c .before .before .before .before .before .before .before .before .before .args .head)
-    (c .before .before .before .before .before .before .before .before .before .args .table .now)
-    (c .before .before .before .before .before .before .before .before .before .args .list .now)
-    (c .before .before .before .before .before .before .before .before .before .args .pairs .now)
-    (c .before .before .before .before .before .before .before .before .before .args .strip .now)
-    (c .before .before .before .before .before .before .before .before .before .args .record .now))
+unfolding rollbackChecks
+returns c = rw (← c .before .before .before .proper-guards .ensures) (joined _ _ (joined _ _ (joined _ _ (one _ (c .before .before .before .before .opening .ensures)) (c .before .before .lent .ensures)) (c .before .guarding .ensures)) (c .recording .ensures))
 
 pub of-rollback-spec : {M : Type 1} → statement M
 of-rollback-spec =
     tie.close
-    (tie.spec of-removal-requires enum-told enum-told-2 returns check-record-requires returns-2)
+    (tie.spec
+    opening-requires
+    proper-guards-requires
+    lent-requires
+    guarding-requires
+    recording-requires
+    returns)

@@ -1,0 +1,2 @@
+-- The promises of the exported calls.
+pub mod Promises

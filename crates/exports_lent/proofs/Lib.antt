@@ -1,0 +1,2 @@
+-- One outcome for each exported call.
+pub mod Outcomes

@@ -1,0 +1,2 @@
+-- That the core, after the checks of either form, is publish.
+pub mod Publishing

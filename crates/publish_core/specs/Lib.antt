@@ -1,0 +1,2 @@
+-- What the contract of the core speaks of.
+pub mod Core

@@ -1,2 +1,0 @@
--- What the contracts of `refusals` speak of.
-pub mod Lending
