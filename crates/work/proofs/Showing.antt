@@ -1,7 +1,7 @@
 -- What a part of a call reached, shown in the lent table with its head and record list, is what the rules show.
 use Prim.Native.Nat.{ℕ, suc, _^_, _<_, _≤_}
 use native.Mathlib.Omega.{arith}
-use mathlib.Core.Path.{_≡_, sym, ap, _∙_}
+use mathlib.Core.Path.{_≡_, refl, sym, ap, _∙_}
 use mathlib.Core.List.{List, [], _∷_}
 use mathlib.Core.Bool.{Bool, true, false, cond, _&&_}
 use lib.ListN.{length}
@@ -75,23 +75,14 @@ module _ (head : Head) (t₀ t list₀ : List ℕ) (ds : List Numbered) (s : Sta
   said : (b : Bool) → isAccepted (r .answer) ≡ b → isAccepted (s .answer) ≡ b
   said b e = ap isAccepted (sym (h .answer)) ∙ e
 
-  -- where all are in, what prepare reached, with the record written, is what the rules show of prepare
-  pub prepared-in :
-      (list : List ℕ) → length t ≡ length t₀ → isAccepted (r .answer) ≡ true → list ≡ written (changeNumbers ds) list₀ →
+  -- what prepare reached, with the record written where all are in, is what the rules show of prepare
+  pub prepared-shown :
+      (list : List ℕ) (b : Bool) → length t ≡ length t₀ → isAccepted (r .answer) ≡ b → list ≡ cond b (written (changeNumbers ds) list₀) list₀ →
       outcomeOf (doneOf head r) t list ≡ shown head t₀ (recordAfter s ds list₀) s
-  prepared-in list len e w =
+  prepared-shown list b len e w =
       reached-shown head t₀ t list len s r most h
       ∙ ap (λ (l : List ℕ). shown head t₀ l s)
-      (w ∙ ap (λ (b : Bool). cond b (written (changeNumbers ds) list₀) list₀) (sym (said true e)))
-
-  -- where not all are in, what it reached, with the record list as it was, is what the rules show of prepare
-  pub prepared-not :
-      length t ≡ length t₀ → isAccepted (r .answer) ≡ false →
-      outcomeOf (doneOf head r) t list₀ ≡ shown head t₀ (recordAfter s ds list₀) s
-  prepared-not len e =
-      reached-shown head t₀ t list₀ len s r most h
-      ∙ ap (λ (l : List ℕ). shown head t₀ l s)
-      (ap (λ (b : Bool). cond b (written (changeNumbers ds) list₀) list₀) (sym (said false e)))
+      (w ∙ ap (λ (b : Bool). cond b (written (changeNumbers ds) list₀) list₀) (sym (said b e)))
 
   -- then the sources, where all are in
   module _ (strip : List ℕ) (ss : List Numbered) where
@@ -117,7 +108,7 @@ module _ (head : Head) (t₀ t list₀ : List ℕ) (ds : List Numbered) (s : Sta
         length t ≡ length t₀ → isAccepted (r .answer) ≡ false →
         outcomeOf (doneOf head r) t list₀ ≡ shown head t₀ (recordAfter s ds list₀) (thenSources strip ss s)
     published-not len e =
-        prepared-not len e
+        prepared-shown list₀ false len e refl
         ∙ ap (shown head t₀ (recordAfter s ds list₀))
         (ap (λ (b : Bool). cond b (removing strip (s .answer) ss (s .read) (s .postings)) s) (sym (said false e)))
 

@@ -61,7 +61,6 @@ pub fn prepare(
     let answer = inserted.answer;
     if is_accepted(answer) {
         write_record(list, record);
-        return done(head, inserted);
     }
     done(head, inserted)
 }

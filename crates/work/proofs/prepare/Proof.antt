@@ -1,11 +1,14 @@
 -- What prepare reached, shown, with the record where all are in.
+use mathlib.Core.Logic.{⊎-elim}
+use mathlib.Core.Bool.{true, false}
 use mathlib.Core.Path.{sym, ap, _∙_}
+use lib.ListN.{length}
 use borrow.Author.Needs.{needs}
 use Rattle.rules.specs.Orders.{changes, destinations}
 use Rattle.table.proofs.Keeping.{well-formed-ordered}
 use Rattle.rules.specs.Calls.{outcomeOf}
 use Rattle.rules.specs.declared.Done.{Done}
-use Rattle.work.proofs.Showing.{used-fits, prepared-in, prepared-not}
+use Rattle.work.proofs.Showing.{used-fits, prepared-shown}
 use Rattle.work.proofs.prepare.Statement.{statement}
 use Rattle.work.proofs.prepare.Tie as tie
 
@@ -13,81 +16,40 @@ cast-prepare : tie.Need-cast-prepare
 cast-prepare c = search needs
 
 prepare-requires : tie.Need-prepare-requires
-prepare-requires c κs = (
-  well-formed-ordered _ _ (c .before .before .before .before .before .before .pre .0),
-  c .before .before .before .before
-      .before .before .pre .1 .0,
-)
+prepare-requires c κs =
+    let p = c .before .before .before .before .before .before .pre in (well-formed-ordered _ _ (p .0), p .1 .0)
 
 is-accepted-requires : tie.Need-is-accepted-requires
 is-accepted-requires c κs = search needs
 
 write-record-requires : tie.Need-write-record-requires
-write-record-requires c κs =
-    c .before .before .before .before .before .before .before .before .before .before .before .before .pre .1
+write-record-requires c κs = search needs
 
 done-requires : tie.Need-done-requires
 done-requires c κs =
-    used-fits _ _ _ _ _
-    (c .before .before .before .before .before .before .before .before .before .before .before .before .before .before
-    .before .pre .0)
-    (c .before .before .before .before .before .before .before .before .prepare .kept .0)
-    (c .before .before .before .before .before .before .before .before .prepare .ensures .carries)
+    let s = c .before .before .before .before in
+    used-fits _ _ _ _ _ (s .before .before .before .before .before .before .before .pre .0) (s .prepare .kept .0)
+    (s .prepare .ensures .carries)
 
 same-length : tie.Need-same-length
 same-length c = search needs
 
 same-length-2 : tie.Need-same-length-2
-same-length-2 c = search needs
+same-length-2 c =
+    ⊎-elim (λ w. ap length (w .5) ∙ w .2 .kept .1 .0) (λ w. ap length (w .1)) (c .before .if1 .came)
 
 returns : tie.Need-returns
 returns c =
-    ap
-    (λ (r : Done). outcomeOf r (c .before .before .before .before .before .before .before .before .before .prepare .last .0)
-    (c .before .before .before .write-record .last .1 .0))
-    (c .done .ensures)
-    ∙ prepared-in
-    (c .before .before .before .before .before .before .before .before .before .before .before .before .before .before
-    .before .before .args .head)
-    (c .before .before .before .before .before .before .before .before .before .before .before .before .before .before
-    .before .before .args .table .now)
-    _
-    (c .before .before .before .before .before .before .before .before .before .before .before .before .before .before
-    .before .before .args .record .now)
-    (destinations
-    (changes
-    (c .before .before .before .before .before .before .before .before .before .before .before .before .before .before
-    .before .before .args .list .now)))
-    _ _ _ (c .before .before .before .before .before .before .before .before .before .prepare .ensures) _
-    (c .before .before .before .before .before .before .before .before .before .prepare .kept .0)
-    (sym (c .before .before .before .before .before .before .is-accepted .ensures) ∙ c .before .before .before .before
-    .before .if1 .taken)
-    (c .before .before .before .write-record .ensures)
-
-done-requires-2 : tie.Need-done-requires-2
-done-requires-2 c κs =
-    used-fits _ _ _ _ _ (c .before .before .before .before .before .before .before .before .before .before .before .pre .0)
-    (c .before .before .before .before .prepare .kept .0) (c .before .before .before .before .prepare .ensures .carries)
-
-same-length-3 : tie.Need-same-length-3
-same-length-3 c = search needs
-
-returns-2 : tie.Need-returns-2
-returns-2 c =
-    ap
-    (λ (r : Done). outcomeOf r (c .before .before .before .before .before .prepare .last .0)
-    (c .before .before .before .before .before .before .before .before .before .before .before .before .args .record .now))
-    (c .done2 .ensures)
-    ∙ prepared-not
-    (c .before .before .before .before .before .before .before .before .before .before .before .before .args .head)
-    (c .before .before .before .before .before .before .before .before .before .before .before .before .args .table .now) _
-    (c .before .before .before .before .before .before .before .before .before .before .before .before .args .record .now)
-    (destinations
-    (changes
-    (c .before .before .before .before .before .before .before .before .before .before .before .before .args .list .now)))
-    _ _ _ (c .before .before .before .before .before .prepare .ensures)
-    (c .before .before .before .before .before .prepare .kept .0)
-    (sym (c .before .before .is-accepted .ensures) ∙ c .before .if1 .left)
+    let s = c .before .before .before .before .before in
+    let a = s .before .before .before .before .before .before .before .args in
+    let shown = prepared-shown (a .head) (a .table .now) _ (a .record .now) (destinations (changes (a .list .now))) _ _ _
+    (s .prepare .ensures) (c .before .if1 .«record») in
+    ap (λ (r : Done). outcomeOf r (s .prepare .last .0) (c .before .if1 .«record»)) (c .done .ensures)
+    ∙ ⊎-elim
+    (λ w. shown true (s .prepare .kept .0) (sym (c .before .before .is-accepted .ensures) ∙ w .0 .taken)
+    (w .5 ∙ w .2 .ensures))
+    (λ w. shown false (s .prepare .kept .0) (sym (c .before .before .is-accepted .ensures) ∙ w .0 .left) (w .1))
+    (c .before .if1 .came)
 
 pub prepare-spec : {M : Type 1} → statement M
 prepare-spec =
@@ -100,7 +62,4 @@ prepare-spec =
     done-requires
     same-length
     same-length-2
-    returns
-    done-requires-2
-    same-length-3
-    returns-2)
+    returns)
