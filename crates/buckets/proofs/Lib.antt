@@ -1,5 +1,4 @@
--- The laws of the checks and of the work, one outcome for each call, and what is guaranteed of their results.
-pub mod Checking
+-- The laws of the work, one outcome for each call, and what is guaranteed of their results.
 pub mod Working
 pub mod Outcomes
 pub mod Guarantees

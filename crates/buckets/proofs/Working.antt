@@ -1,24 +1,45 @@
 -- What the rules say where the checks refuse, and where they pass: then there is room, and what the engines write is what is said.
 use Prim.Native.Nat.{ℕ, _≤_}
 use native.Mathlib.Omega.{arith}
-use mathlib.Core.Path.{_≡_}
+use mathlib.Core.Path.{_≡_, refl, subst}
 use mathlib.Core.List.{List, []}
-use mathlib.Core.Bool.{_||_}
+use mathlib.Core.Bool.{Bool, false, _||_}
 use lib.ListN.{length}
+use Rattle.booleans.proofs.Tests.{by-cases}
 use Rattle.lent_lists.specs.Written.{written}
 use Rattle.bucket_rules.specs.declared.Answer.{Answer}
 use Rattle.bucket_rules.specs.declared.Verdict.{Verdict}
+use Rattle.bucket_rules.specs.Answers.{isAccepted}
 use Rattle.bucket_rules.specs.Buckets.{distinct, membership}
-use Rattle.bucket_rules.specs.Calls.{mostInput, shortOutput, shortScratch, checks, answerOf, sortOf, bitmapOf}
+use Rattle.bucket_rules.specs.Calls.{mostInput, overLimits, shortOutput, shortScratch, rangeCheck, checks, answerOf, sortOf, bitmapOf}
 use Rattle.bucket_laws.specs.Clauses.{InRange, WithinLimits, OutputRoom, BitmapRoom}
 use Rattle.bucket_laws.proofs.Choosing.{length-distinct}
+use Rattle.bucket_laws.proofs.Range.{Ranged, ranged}
 use Rattle.bucket_laws.proofs.Exactly.{sort-accepted-exactly, bitmap-accepted-exactly}
 use Rattle.bucket_laws.proofs.Upstream.{distinct-fits}
 use Rattle.sorting.specs.Gathering.{gathered}
 use Rattle.sorting.proofs.Distinct.{gathered-distinct}
 use Rattle.bitmaps.specs.Bitmaps.{Holds}
 use Rattle.buckets.specs.Promises.{outcomeOf}
-use Rattle.buckets.proofs.Checking.{refused-not-accepted}
+
+module _ (input : List ℕ) (count : ℕ) where
+  -- a refusal is never an answer of success
+  abbrev Refusal : Verdict → Type 0
+  Refusal Verdict.Passes = Unit {0}
+  Refusal (Verdict.Refused a) = isAccepted a ≡ false
+
+  refusal : (short : Bool) → Refusal (checks short input count)
+  unfolding checks
+  refusal short =
+      by-cases Refusal (overLimits input count) (λ e. refl)
+      (λ e. by-cases Refusal short (λ f. refl) (λ f. ranged-refusal (rangeCheck count input) (ranged input count)))
+    where
+      ranged-refusal : (v : Verdict) → Ranged input count v → Refusal v
+      ranged-refusal v (Ranged.inside r) = tt
+      ranged-refusal v (Ranged.outside f) = refl
+
+  refused-not-accepted : (short : Bool) {a : Answer} → checks short input count ≡ Verdict.Refused a → isAccepted a ≡ false
+  refused-not-accepted short e = subst Refusal e (refusal short)
 
 module _ (input : List ℕ) (count : ℕ) (output : List ℕ) where
   -- the sorting engine refuses

@@ -1,51 +1,8 @@
-// The lists of a program, kept in one array that is lent about in place of them all. Each has a place there for its length,
+// The lists of a program, kept in one array that is lent about in place of them all. Each has a part there: a place for its length,
 // and behind it room for its numbers. A list ends where the array ends, whatever is said of its room, so that nothing that a
 // program says of its lists can be a fault.
-ghost use Prim.Native.Nat.{_≤_, _<_};
+ghost use Prim.Native.Nat.{_≤_};
 ghost use lib.ListN.{length};
-ghost use mathlib.Core.Path.{_≡_};
-
-// Where a list stands, and what it may be.
-pub struct List {
-    // where its length stands; its numbers follow
-    pub start: usize,
-    // how many numbers it can have
-    pub room: u32,
-    // the largest number that it takes
-    pub largest: u32,
-    // whether it must have as many numbers as it can
-    pub fixed: bool,
-}
-
-// A list of numbers, as many as there is room for or fewer.
-pub fn numbers_at(start: usize, room: u32) -> List {
-    List {
-        start,
-        room,
-        largest: 4294967295,
-        fixed: false,
-    }
-}
-
-// A list of bytes, as many as there is room for or fewer.
-pub fn bytes_at(start: usize, room: u32) -> List {
-    List {
-        start,
-        room,
-        largest: 255,
-        fixed: false,
-    }
-}
-
-// A list of just so many numbers.
-pub fn fixed_at(start: usize, room: u32) -> List {
-    List {
-        start,
-        room,
-        largest: 4294967295,
-        fixed: true,
-    }
-}
 
 // The smaller of two sizes.
 fn least(size: usize, other: usize) -> usize
@@ -56,69 +13,54 @@ fn least(size: usize, other: usize) -> usize
 }
 
 // A number as a size.
-fn as_size(number: u32) -> usize
-    ensures { λ r. ⌜ r ≡ number ⌝ }
+pub fn as_size(number: u32) -> usize
+    ensures { λ r. ⌜ r ≤ 4294967295 ⌝ }
 {
     number as usize
 }
 
-// The numbers of a list.
-pub fn numbers(lists: &[u32], list: List) -> &[u32] {
-    let start = list.start;
+// The numbers of the list whose part begins at a place.
+pub fn numbers(lists: &[u32], start: usize) -> &[u32] {
     if start >= lists.len() {
         return &lists[0..0];
     }
-    let size = least(as_size(lists[start]), as_size(list.room));
     let from = start + 1;
     let behind = &lists[from..];
-    let end = least(size, behind.len());
+    let end = least(as_size(lists[start]), behind.len());
     &behind[0..end]
 }
 
 // The number at a place of a list, or 0 past its end.
-pub fn number(lists: &[u32], list: List, place: usize) -> u32 {
-    let all = numbers(lists, list);
+pub fn number(lists: &[u32], start: usize, place: usize) -> u32 {
+    let all = numbers(lists, start);
     if place < all.len() { all[place] } else { 0 }
 }
 
-// Makes a list empty.
-pub fn clear(lists: &mut [u32], list: List) {
-    let start = list.start;
-    if start < lists.len() {
-        lists[start] = 0;
+// How many numbers a list has, by its part of the array.
+pub fn size_of(part: &[u32]) -> u32 {
+    if part.len() == 0 {
+        return 0;
+    }
+    part[0]
+}
+
+// Says how many numbers a list has.
+pub fn set_size(part: &mut [u32], size: u32) {
+    if part.len() > 0 {
+        part[0] = size;
     }
 }
 
-// Adds a number to a list of this size, and answers whether the array has a place for it.
-fn put(lists: &mut [u32], start: usize, size: u32, number: u32) -> bool
-    requires { ⌜ start < length (now lists) ⌝ }
-    requires { ⌜ size < 4294967295 ⌝ }
-{
-    let end = start + 1 + as_size(size);
-    if end >= lists.len() {
+// Adds a number at a list's end, and answers whether there is room for it.
+pub fn append(part: &mut [u32], number: u32) -> bool {
+    let size = size_of(part);
+    let end = as_size(size) + 1;
+    if end >= part.len() {
         return false;
     }
-    lists[end] = number;
-    lists[start] = size + 1;
+    part[end] = number;
+    part[0] = std::num::wrapping_add_u32(size, 1);
     true
-}
-
-// Adds a number at a list's end, and answers whether the list takes it.
-pub fn append(lists: &mut [u32], list: List, number: u32) -> bool {
-    let start = list.start;
-    if number > list.largest || start >= lists.len() {
-        return false;
-    }
-    let size = lists[start];
-    if size >= list.room {
-        return false;
-    }
-    put(lists, start, size, number)
-}
-
-// Whether a list has as many numbers as it must.
-pub fn is_complete(lists: &[u32], list: List) -> bool {
-    !list.fixed || numbers(lists, list).len() == as_size(list.room)
 }
 
 // Copies numbers to the start of another list, as far as there is room, and answers how many it copied.

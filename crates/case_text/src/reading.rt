@@ -1,8 +1,8 @@
 // Reads the text of the cases: words, numbers, and the items of a list's line, which are `v`, `n*v` and `n*(v w+ ..)`.
-ghost use Prim.Native.Nat.{_≤_};
+ghost use Prim.Native.Nat.{_≤_, _<_, _/_};
 ghost use lib.ListN.{length};
 use crate::lists;
-use crate::lists::List;
+use crate::writing;
 
 // A number that stands in the text, and the place after it. The value is above the largest u32 where no number stands
 // there, or none that fits.
@@ -26,7 +26,7 @@ pub fn same(word: &[u8], other: &[u8]) -> bool {
         return false;
     }
     let mut at = 0;
-    while at < word.len() && at < other.len() {
+    while at < word.len() {
         if word[at] != other[at] {
             return false;
         }
@@ -127,16 +127,16 @@ fn number_in_turn(text: &[u8], from: usize, turn: u64) -> Read {
 }
 
 // Adds a number to a list, and answers whether the list takes it.
-fn append(lists: &mut [u32], list: List, value: u64) -> bool {
-    if value > 4294967295 {
+fn append(part: &mut [u32], largest: u32, value: u64) -> bool {
+    if value > largest as u64 {
         return false;
     }
-    lists::append(lists, list, value as u32)
+    lists::append(part, value as u32)
 }
 
 // Passes a space or adds the number at a place, and answers the place after it, or the same place where it is malformed
 // or the list has no room.
-fn add_number(text: &[u8], at: usize, turn: u64, lists: &mut [u32], list: List) -> usize {
+fn add_number(text: &[u8], at: usize, turn: u64, part: &mut [u32], largest: u32) -> usize {
     if at < text.len() && stands(text, at, b' ') {
         return at + 1;
     }
@@ -144,7 +144,7 @@ fn add_number(text: &[u8], at: usize, turn: u64, lists: &mut [u32], list: List) 
     if !is_end(text, read.next) {
         return at;
     }
-    if append(lists, list, read.value) {
+    if append(part, largest, read.value) {
         read.next
     } else {
         at
@@ -152,10 +152,10 @@ fn add_number(text: &[u8], at: usize, turn: u64, lists: &mut [u32], list: List) 
 }
 
 // Adds the numbers of a group as they are in one turn, and answers whether all was well.
-fn add_turn(group: &[u8], turn: u64, lists: &mut [u32], list: List) -> bool {
+fn add_turn(group: &[u8], turn: u64, part: &mut [u32], largest: u32) -> bool {
     let mut at = 0;
     while at < group.len() {
-        let next = add_number(group, at, turn, lists, list);
+        let next = add_number(group, at, turn, part, largest);
         if next <= at {
             return false;
         }
@@ -165,13 +165,13 @@ fn add_turn(group: &[u8], turn: u64, lists: &mut [u32], list: List) -> bool {
 }
 
 // Adds a group as often as is said. A group begins with a number, so that each turn fills some of the list's room.
-fn add_group(group: &[u8], times: u64, lists: &mut [u32], list: List) -> bool {
+fn add_group(group: &[u8], times: u64, part: &mut [u32], largest: u32) -> bool {
     if times > 4294967295 || !is_digit_at(group, 0) {
         return false;
     }
     let mut turn = 0;
     while turn < times {
-        if !add_turn(group, turn, lists, list) {
+        if !add_turn(group, turn, part, largest) {
             return false;
         }
         turn += 1;
@@ -234,7 +234,7 @@ fn item_at(text: &[u8], at: usize) -> Item
 
 // Passes a space or adds the item at a place, and answers the place after it, or the same place where it is malformed or
 // the list has no room.
-fn add_item(text: &[u8], at: usize, lists: &mut [u32], list: List) -> usize
+fn add_item(text: &[u8], at: usize, part: &mut [u32], largest: u32) -> usize
     requires { ⌜ at ≤ length (now text) ⌝ }
 {
     if at < text.len() && stands(text, at, b' ') {
@@ -243,17 +243,17 @@ fn add_item(text: &[u8], at: usize, lists: &mut [u32], list: List) -> usize
     let item = item_at(text, at);
     let from = item.from;
     let to = item.to;
-    if add_group(&text[from..to], item.times, lists, list) {
+    if add_group(&text[from..to], item.times, part, largest) {
         return item.next;
     }
     at
 }
 
 // Adds all items of a line, and answers whether all was well.
-fn add_items(text: &[u8], lists: &mut [u32], list: List) -> bool {
+fn add_items(text: &[u8], part: &mut [u32], largest: u32) -> bool {
     let mut at = 0;
     while at < text.len() {
-        let next = add_item(text, at, lists, list);
+        let next = add_item(text, at, part, largest);
         if next <= at {
             return false;
         }
@@ -268,19 +268,93 @@ pub fn is_silent(line: &[u8]) -> bool {
 }
 
 // The word that a line begins with.
-pub fn first_word(line: &[u8]) -> &[u8] {
+fn first_word(line: &[u8]) -> &[u8]
+    ensures { λ r. ⌜ length (now r) ≤ length (now (line .entry)) ⌝ }
+{
     let end = find(line, 0, b' ');
     &line[0..end]
 }
 
-// Sets a list to what its line says after the first word, and answers whether that is a list that the program takes; if
-// not, the list is left empty.
-pub fn set(line: &[u8], lists: &mut [u32], list: List) -> bool {
-    lists::clear(lists, list);
-    let from = find(line, 0, b' ');
-    if add_items(&line[from..], lists, list) && lists::is_complete(lists, list) {
-        return true;
+// Which of the words that stand in a text, a space between two of them, is this one: from 0 on, or above all where it is none.
+fn place_of(word: &[u8], words: &[u8]) -> usize {
+    let mut at = 0;
+    let mut place = 0;
+    while at < words.len() {
+        let end = find(words, at, b' ');
+        if same(word, &words[at..end]) {
+            return place;
+        }
+        at = end + 1;
+        place += 1;
     }
-    lists::clear(lists, list);
+    usize::MAX
+}
+
+// The largest number that the list of a name takes: a strip has bytes.
+fn largest_in(name: &[u8]) -> u32 {
+    if same(name, b"strip") {
+        return 255;
+    }
+    4294967295
+}
+
+// How many numbers a list must have, by how many it can have: a list of a few numbers has them all.
+fn fewest_of(most: u32) -> u32 {
+    if most < 10 {
+        return most;
+    }
+    0
+}
+
+// Fills a list, by its part of the array, with what its line says after the first word, and answers whether that is a list that the
+// program takes; if not, the list is left empty.
+fn fill(line: &[u8], part: &mut [u32], fewest: u32) -> bool {
+    lists::set_size(part, 0);
+    let name = first_word(line);
+    let from = name.len();
+    if add_items(&line[from..], part, largest_in(name)) {
+        if lists::size_of(part) >= fewest {
+            return true;
+        }
+    }
+    lists::set_size(part, 0);
     false
+}
+
+// Sets the list that begins at a place and can have so many numbers, and answers whether the list takes what its line says.
+fn set(line: &[u8], lists: &mut [u32], start: u32, most: u32) -> bool {
+    let from = lists::as_size(start);
+    let end = from + 1 + lists::as_size(most);
+    if end > lists.len() {
+        return false;
+    }
+    fill(line, &mut lists[from..end], fewest_of(most))
+}
+
+// Sets the list at a place among those that a program says, or says that the line is malformed.
+fn set_at(line: &[u8], lists: &mut [u32], said: &[u32], place: usize)
+    requires { ⌜ place < length (now said) / 2 ⌝ }
+{
+    let at = place * 2;
+    if !set(line, lists, said[at], said[at + 1]) {
+        writing::write_malformed(line);
+    }
+}
+
+// Does what a line says, unless it runs a case: then it answers which of the words it begins with, counted from 0, and else a
+// number above all. First among the words stand the names of the lists; of each is said where it begins and how many numbers it can
+// have.
+pub fn run_line(line: &[u8], lists: &mut [u32], said: &[u32], words: &[u8]) -> usize {
+    if is_silent(line) {
+        return usize::MAX;
+    }
+    let place = place_of(first_word(line), words);
+    if place < said.len() / 2 {
+        set_at(line, lists, said, place);
+        return usize::MAX;
+    }
+    if place == usize::MAX {
+        writing::write_malformed(line);
+    }
+    place
 }

@@ -1,48 +1,28 @@
 // Runs the lane calls on the cases that its input lists, and writes a line for each: the call and the case's name, the answer
 // and its value, and the view after it (height, guarded flag, retired flag, attached lanes, window). What the input may say
 // stands in crate `case_text`.
-mod lists;
-
+use case_text::lists;
 use case_text::reading;
 use case_text::writing;
 use lane_rules::Done;
 use lane_rules::View;
-use lists::Name;
 
-// The lane calls.
-enum Call {
-    Cached,
-    Refreshed,
-    Detach,
-}
+// Where the lists begin in the array of 2,300 numbers that holds them all: the view's five numbers (height, guarded flag, retired
+// flag, attached lanes, window), the number of rounds that a detach is lent, the pinned contents, and the strip.
+const VIEW: usize = 0;
 
-// What the first word of a line asks for.
-enum Word {
-    Set(Name),
-    Run(Call),
-    Unknown,
-}
+const ROUNDS: usize = 10;
 
-// What a word asks for: a call, a list or nothing.
-fn named(word: &[u8]) -> Word {
-    if reading::same(word, b"cached") {
-        Word::Run(Call::Cached)
-    } else if reading::same(word, b"refreshed") {
-        Word::Run(Call::Refreshed)
-    } else if reading::same(word, b"detach") {
-        Word::Run(Call::Detach)
-    } else if reading::same(word, b"view") {
-        Word::Set(Name::View)
-    } else if reading::same(word, b"contents") {
-        Word::Set(Name::Contents)
-    } else if reading::same(word, b"strip") {
-        Word::Set(Name::Strip)
-    } else if reading::same(word, b"rounds") {
-        Word::Set(Name::Rounds)
-    } else {
-        Word::Unknown
-    }
-}
+const CONTENTS: usize = 20;
+
+const STRIP: usize = 1150;
+
+// The lane calls, by their places among the words that a line can begin with.
+const CACHED: usize = 4;
+
+const REFRESHED: usize = 5;
+
+const DETACH: usize = 6;
 
 // Writes the answer and its value.
 fn write_answer(done: Done) {
@@ -67,54 +47,48 @@ fn write_view(view: View) {
 // The view that the lists say.
 fn view_of(lists: &[u32]) -> View {
     View {
-        height: lists::number(lists, Name::View, 0),
-        guarded: lists::number(lists, Name::View, 1),
-        retired: lists::number(lists, Name::View, 2),
-        attached: lists::number(lists, Name::View, 3),
-        window: lists::number(lists, Name::View, 4),
+        height: lists::number(lists, VIEW, 0),
+        guarded: lists::number(lists, VIEW, 1),
+        retired: lists::number(lists, VIEW, 2),
+        attached: lists::number(lists, VIEW, 3),
+        window: lists::number(lists, VIEW, 4),
     }
 }
 
 // Runs a call with the view, the contents and the rounds of the lists.
-fn run_with(call: Call, lists: &[u32], strip: &[u8]) -> Done {
+fn run_with(call: usize, lists: &[u32], strip: &[u8]) -> Done {
     let view = view_of(lists);
-    let contents = lists::numbers(lists, Name::Contents);
-    let rounds = lists::number(lists, Name::Rounds, 0);
-    match call {
-        Call::Cached => lanes::cached_detach(view, contents, strip),
-        Call::Refreshed => lanes::refreshed_detach(view, contents, strip),
-        Call::Detach => lanes::detach_before_retire(view, contents, strip, rounds),
+    let contents = lists::numbers(lists, CONTENTS);
+    let rounds = lists::number(lists, ROUNDS, 0);
+    if call == CACHED {
+        return lanes::cached_detach(view, contents, strip);
     }
+    if call == REFRESHED {
+        return lanes::refreshed_detach(view, contents, strip);
+    }
+    lanes::detach_before_retire(view, contents, strip, rounds)
 }
 
-// Runs a case, and writes what comes of it.
-fn run_case(call: Call, lists: &[u32]) {
+// Runs the case of a line, and writes what comes of it.
+fn run_case(line: &[u8], call: usize, lists: &[u32]) {
     let mut strip = [0u8; 1100];
-    let size = case_text::lists::copy_bytes(lists::numbers(lists, Name::Strip), &mut strip);
+    let size = lists::copy_bytes(lists::numbers(lists, STRIP), &mut strip);
     let all = &strip[..];
     let done = run_with(call, lists, &all[0..size]);
+    io::write_all(1, line);
     write_answer(done);
     write_view(done.view);
     io::write_all(1, b"\n");
 }
 
-// Does what one line says.
+// Does what one line says. Of each list stands here where it begins, and how many numbers it can have: of the strip and the contents
+// somewhat more than the rules allow, so that the cases can go beyond them. Each leaves the list before it its room.
 fn run_line(line: &[u8], lists: &mut [u32]) {
-    if reading::is_silent(line) {
-        return;
-    }
-    let asked = named(reading::first_word(line));
-    match asked {
-        Word::Set(name) => {
-            if !reading::set(line, lists, lists::list_of(name)) {
-                writing::write_malformed(line);
-            }
-        }
-        Word::Run(call) => {
-            io::write_all(1, line);
-            run_case(call, lists);
-        }
-        Word::Unknown => writing::write_malformed(line),
+    let said = [0u32, 5, 10, 1, 20, 1100, 1150, 1100];
+    let words = b"view rounds contents strip cached refreshed detach";
+    let call = reading::run_line(line, lists, &said, words);
+    if call <= DETACH {
+        run_case(line, call, lists);
     }
 }
 

@@ -15,13 +15,13 @@ use Rattle.lane_rules.specs.Answers.{isAccepted}
 use Rattle.lane_rules.specs.Passes.{bySaid, cachedPass, tryLane, refreshedFrom}
 use Rattle.lane_rules.specs.Calls.{viewWith, passed, ended, cachedOf, refreshedOf, detachOf}
 use Rattle.lane_laws.specs.Clauses.{NoneBelow, Valid, Frame, isRefusal, WindowClauses, CompareClauses, RefreshClauses}
-use Rattle.lane_laws.specs.Clauses.{RetireClauses, PassClauses, RefreshedClauses, DetachClauses}
+use Rattle.lane_laws.specs.Clauses.{RefreshBegins, RetireClauses, PassClauses, RefreshedClauses, DetachClauses}
 use Rattle.lane_laws.specs.Ends.{cachedWork, refreshedWork, detachWork, Ends}
 use Rattle.lane_laws.proofs.Cases.{no-not-yes, error-not-yes, refusal-not-accepted, yes-told}
 use Rattle.lane_laws.proofs.Reading.{begun}
 use Rattle.lane_laws.proofs.Entry.{detach-cases, refreshed-cases}
 use Rattle.lane_laws.proofs.Frames.{below-inside, compare-leaves, refresh-leaves, Clears, cached-leaves, refreshed-leaves}
-use Rattle.lane_laws.proofs.Frames.{refreshed-yes, detaching-inside}
+use Rattle.lane_laws.proofs.Frames.{refreshed-yes, round-leaves, detaching-inside}
 use Rattle.lane_laws.proofs.Exactly.{detaching-ends, accepted-detached, ends-unrefused}
 
 -- a view in which lanes were cleared is in upstream's frame
@@ -49,7 +49,12 @@ valid-inside v attached window i r =
 pub window-clauses : (v : View) (lane : ℕ) → WindowClauses v lane
 unfolding cachedPass refreshedFrom tryLane
 window-clauses v lane =
-    record { cachedStops = λ h strip attached read. rw h; refreshedSkips = λ h strip p ok. rw (h, ok) }
+    record {
+      cachedStops = λ h strip attached read. rw h;
+      refreshedSkips = λ h strip p ok. rw (h, ok);
+      cachedTries = λ h strip attached read. rw h;
+      refreshedTries = λ h strip p. rw h;
+    }
 
 -- detach_lane
 pub compare-clauses : (v : View) (byte lane : ℕ) → CompareClauses v byte lane
@@ -81,6 +86,14 @@ refresh-clauses v byte =
       okWindow = k .sets;
       errors = λ h. rw (k .fails h .0, k .fails h .1);
     }
+
+-- each refresh of a detach finds a valid view, if the detach was given one
+pub refresh-begins-valid :
+    (v : View) (strip : List ℕ) → Valid v → {w : View} {read : ℕ} → RefreshBegins v strip w read → Valid w
+refresh-begins-valid v strip r (RefreshBegins.first said) =
+    valid-inside v _ (v .window) (cached-leaves strip (v .window) (v .height) (v .attached) 0 .clears .inside) r
+refresh-begins-valid v strip r (RefreshBegins.next {w} {read} b said) =
+    valid-inside w _ _ (round-leaves strip (w .height) (w .attached) (w .window) read .inside) (refresh-begins-valid v strip r b)
 
 -- retire_node
 pub retire-clauses : (v : View) → RetireClauses v
@@ -162,6 +175,7 @@ module _ (v : View) where
         okAttached = λ e. absurd (never e);
         errors = λ e. refl;
         retires = λ e. absurd (never e);
+        leaves = λ e. refl;
         loopDetached = λ e. absurd (never e);
         loopValid = λ r. r;
         loopHeight = refl;
@@ -188,6 +202,7 @@ module _ (v : View) where
         okAttached = accepted-detached k;
         errors = λ a. rw a;
         retires = λ a. rw a;
+        leaves = λ a. rw a;
         loopDetached = none;
         loopValid = valid-inside v (e .attached) (e .window) i;
         loopHeight = refl;

@@ -1,20 +1,22 @@
 -- Upstream's contracts of the lane functions, clause by clause, said of the views that the rules leave.
-use Prim.Native.Nat.{ℕ, suc, _<_, _≤_}
+use Prim.Native.Nat.{ℕ, suc, _+_, _<_, _≤_}
 use mathlib.Core.Path.{_≡_}
 use mathlib.Core.List.{List}
 use mathlib.Core.Bool.{Bool, true, false, _&&_}
 use lib.Dec.{leb}
-use Rattle.strips.specs.Strips.{properStrip}
+use Rattle.strips.specs.Strips.{properStrip, byteAt}
 use Rattle.masks.specs.Masks.{mostLanes, laneIn, Inside}
 use Rattle.lane_rules.specs.declared.View.{View}
 use Rattle.lane_rules.specs.declared.Said.{Said}
 use Rattle.lane_rules.specs.declared.Pass.{Pass}
+use Rattle.lane_rules.specs.declared.Round.{Round}
 use Rattle.lane_rules.specs.declared.Answer.{Answer}
 use Rattle.lane_rules.specs.declared.Verdict.{Verdict}
 use Rattle.lane_rules.specs.declared.Done.{Done}
 use Rattle.lane_rules.specs.Answers.{toldOf, isAccepted}
 use Rattle.lane_rules.specs.Steps.{compared, refreshed}
-use Rattle.lane_rules.specs.Passes.{failed, cachedPass, refreshedFrom}
+use Rattle.lane_rules.specs.Passes.{bySaid, failed, cachedPass, tryLane, refreshedFrom}
+use Rattle.lane_rules.specs.Rounds.{round}
 use Rattle.lane_rules.specs.Calls.{badHeight, badView, viewWith}
 
 -- each lane of the mask is below the height
@@ -86,6 +88,28 @@ abbrev pub refreshedBy : View → ℕ → View
 refreshedBy v byte =
     let f = refreshed byte (v .attached) (v .window) in viewWith v (f .attached) (f .window) (v .retired)
 
+-- the view that a cached pass leaves
+abbrev pub cachedBy : View → List ℕ → View
+cachedBy v strip =
+    viewWith v (cachedPass strip (v .height) (v .window) (v .attached) 0 .attached) (v .window) (v .retired)
+
+-- what a round does with the view, from so many bytes on
+abbrev pub roundFrom : View → List ℕ → ℕ → Round
+roundFrom v strip read = round strip (v .height) (v .attached) (v .window) read
+
+-- the view that it leaves
+abbrev pub roundBy : View → List ℕ → ℕ → View
+roundBy v strip read = viewWith v (roundFrom v strip read .attached) (roundFrom v strip read .window) (v .retired)
+
+-- where the refreshes of a detach begin, as view and bytes read: after a cached pass that says no, and after each round that does
+pub data RefreshBegins (v : View) (strip : List ℕ) : View → ℕ → Type 0 where
+  first :
+      cachedPass strip (v .height) (v .window) (v .attached) 0 .said ≡ Said.No →
+      RefreshBegins v strip (cachedBy v strip) (cachedPass strip (v .height) (v .window) (v .attached) 0 .read)
+  next :
+      {w : View} {read : ℕ} → RefreshBegins v strip w read → roundFrom w strip read .said ≡ Said.No →
+      RefreshBegins v strip (roundBy w strip read) (roundFrom w strip read .read)
+
 -- the view once the node is retired
 abbrev pub retiredOf : View → View
 retiredOf v = viewWith v (v .attached) (v .window) 1
@@ -114,7 +138,7 @@ DetachEntry v = Entry v (Unit {0})
 abbrev pub RefreshedEntry : View → List ℕ → Verdict → Type 0
 RefreshedEntry v = Entry v (Inside (v .attached) (v .window))
 
--- window_contains: at each lane a pass goes by whether the window has it
+-- window_contains: at each lane a pass goes by whether the window has it, and by nothing else
 pub record WindowClauses (v : View) (lane : ℕ) : Type 0 where
   -- a cached pass says no at a lane outside the window
   pub cachedStops :
@@ -124,6 +148,20 @@ pub record WindowClauses (v : View) (lane : ℕ) : Type 0 where
   pub refreshedSkips :
       laneIn (v .window) lane ≡ false → (strip : List ℕ) (p : Pass) → failed p ≡ false →
       refreshedFrom strip (suc lane) (v .window) p ≡ refreshedFrom strip lane (v .window) p
+  -- a cached pass tries a lane in the window, and goes on where the compare says yes
+  pub cachedTries :
+      laneIn (v .window) lane ≡ true → (strip : List ℕ) (attached read : ℕ) →
+      let c = compared (byteAt strip read) lane attached in
+      cachedPass strip (suc lane) (v .window) attached read ≡
+      bySaid (c .said) (cachedPass strip lane (v .window) (c .attached) (read + 1))
+      (record { said = Said.No; attached = c .attached; read = read + 1 })
+      (record { said = Said.Error; attached = c .attached; read = read + 1 })
+  -- a refreshed pass tries it too, and no longer says yes
+  pub refreshedTries :
+      laneIn (v .window) lane ≡ true → (strip : List ℕ) (p : Pass) →
+      let c = compared (byteAt strip (p .read)) lane (p .attached) in
+      tryLane strip (v .window) lane p ≡
+      record { said = bySaid (c .said) Said.No Said.No Said.Error; attached = c .attached; read = p .read + 1 }
 
 -- detach_lane, of any view and any lane
 pub record CompareClauses (v : View) (byte lane : ℕ) : Type 0 where
@@ -211,6 +249,8 @@ pub record DetachClauses (v : View) (o : Done) : Type 0 where
   pub errors : isAccepted (o .answer) ≡ false → o .view .retired ≡ v .retired
   -- what was retired is the view that the retry loop left
   pub retires : isAccepted (o .answer) ≡ true → o .view ≡ retiredOf (beforeRetiring v o)
+  -- and at every other answer that view is handed back
+  pub leaves : isAccepted (o .answer) ≡ false → o .view ≡ beforeRetiring v o
   -- the loop ensures detached
   pub loopDetached : isAccepted (o .answer) ≡ true → Detached (beforeRetiring v o)
   -- the loop ensures valid

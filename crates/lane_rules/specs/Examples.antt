@@ -142,12 +142,16 @@ pub high-window :
     ∷ detachOf (view 2 3 7) [] 0 gives row 0 0 0 7 1
     ∷ detachOf (view 2 3 4) [] 2 gives row 0 2 0 0 1
     ∷ detachOf (view 2 3 4) [] 0 gives row 25 0 3 4 0
+    ∷ cachedOf (view 3 7 allLanes) [] gives row 0 1 0 allLanes 0
+    ∷ refreshedOf (view 3 7 allLanes) [] gives row 0 0 0 allLanes 0
+    -- only lanes below the height can be within the window
+    ∷ refreshedOf (view 2 3 4) [] gives row 22 0 3 4 0
     ∷ [])
 unfolding computing
 high-window = refl
 
 -- height 32 is accepted: all lanes in no round, the top lane alone, two rounds for the lanes outside the window, and an error
--- behind a refresh that cleared lane 0; heights 33 and 0 are refused
+-- behind a refresh that cleared lane 0; heights 33, 0 and the largest are refused
 pub full-height :
     Hold
     (cachedOf (view 32 allLanes allLanes) [] gives row 0 1 0 allLanes 0
@@ -157,7 +161,10 @@ pub full-height :
     ∷ detachOf (view 32 allLanes 0) (1 ∷ 2 ∷ []) 2 gives row 24 1 (allLanes - 1) (allLanes - 1) 0
     ∷ cachedOf (view 33 0 0) [] gives row 20 0 0 0 0
     ∷ cachedOf (view 0 0 0) [] gives row 20 0 0 0 0
+    ∷ cachedOf (view allLanes 0 0) [] gives row 20 0 0 0 0
+    ∷ refreshedOf (view 33 0 0) [] gives row 20 0 0 0 0
     ∷ detachOf (view 33 0 0) [] 9 gives row 20 0 0 0 0
+    ∷ detachOf (view 0 0 0) [] 9 gives row 20 0 0 0 0
     ∷ [])
 unfolding computing
 full-height = refl
@@ -166,14 +173,24 @@ full-height = refl
 abbrev pub flagged : ℕ → ℕ → View
 flagged guarded retired = record { height = 3; guarded = guarded; retired = retired; attached = 7; window = 7 }
 
--- not guarded, retired, a flag that is neither 0 nor 1, and a lane at the height
+-- not guarded, retired, a flag that is neither 0 nor 1, and a lane at the height or above it
 pub bad-views :
     Hold
     (cachedOf (flagged 0 0) [] gives row 21 0 7 7 0
     ∷ cachedOf (flagged 1 1) [] gives row 21 0 7 7 1
     ∷ cachedOf (flagged 2 0) [] gives row 21 0 7 7 0
+    ∷ cachedOf (flagged 3 0) [] gives row 21 0 7 7 0
+    ∷ cachedOf (flagged allLanes 0) [] gives row 21 0 7 7 0
     ∷ cachedOf (flagged 1 2) [] gives row 21 0 7 7 2
+    ∷ cachedOf (flagged 1 3) [] gives row 21 0 7 7 3
+    ∷ cachedOf (flagged 1 allLanes) [] gives row 21 0 7 7 allLanes
+    ∷ refreshedOf (flagged 3 0) [] gives row 21 0 7 7 0
+    ∷ refreshedOf (flagged 1 3) [] gives row 21 0 7 7 3
+    ∷ detachOf (flagged 3 0) [] 9 gives row 21 0 7 7 0
+    ∷ detachOf (flagged 1 3) [] 9 gives row 21 0 7 7 3
     ∷ detachOf (view 2 4 7) [] 9 gives row 21 0 4 7 0
+    ∷ detachOf (view 2 8 15) [] 9 gives row 21 0 8 15 0
+    ∷ detachOf (view 2 (2 ^ 31) allLanes) [] 9 gives row 21 0 (2 ^ 31) allLanes 0
     ∷ detachOf (view 31 (2 ^ 31) 0) [] 9 gives row 21 0 (2 ^ 31) 0 0
     ∷ [])
 unfolding computing
@@ -198,6 +215,12 @@ pub strip-limit :
     Hold
     (cachedOf (view 1 1 1) (replicate 1024 0) gives row 0 1 0 1 0
     ∷ cachedOf (view 1 1 1) (replicate 1025 0) gives row 23 0 1 1 0
+    ∷ refreshedOf (view 1 1 1) (replicate 1024 0) gives row 0 0 0 1 0
+    ∷ refreshedOf (view 1 1 1) (replicate 1025 0) gives row 23 0 1 1 0
+    ∷ detachOf (view 1 1 1) (replicate 1024 0) 0 gives row 0 0 0 1 1
+    ∷ detachOf (view 1 1 1) (replicate 1025 0) 0 gives row 23 0 1 1 0
+    -- the largest byte is none, and one that would not be read counts too
+    ∷ cachedOf (view 1 1 0) (255 ∷ []) gives row 23 0 1 0 0
     ∷ [])
 unfolding computing
 strip-limit = refl

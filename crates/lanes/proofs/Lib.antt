@@ -1,4 +1,3 @@
--- The laws of the checks, one outcome for each call, and what is guaranteed of their results.
-pub mod Checking
+-- One outcome for each call, and what is guaranteed of their results.
 pub mod Outcomes
 pub mod Guarantees

@@ -1,6 +1,8 @@
 // The lane calls: the view by value, the pinned contents and the strip lent for reading. Any numbers may come in: a call refuses by
 // number and then changes nothing, or does the work that the lane rules say. Each promise says of all that is seen afterwards that
 // it is what the rules say. No call can write the contents, which readers may hold pinned.
+use lane_checks::entry_checks;
+use lane_checks::refreshed_checks;
 use lane_rules::Answer;
 use lane_rules::Done;
 use lane_rules::Ended;
@@ -14,7 +16,7 @@ ghost use mathlib.Core.Bool.{cond};
 ghost use Rattle.lane_rules.specs.declared.Answer.{Answer};
 ghost use Rattle.lane_rules.specs.Answers.{toldOf, isAccepted};
 ghost use Rattle.lane_rules.specs.Passes.{bySaid};
-ghost use Rattle.lane_rules.specs.Calls.{badHeight, badView, entryChecks, refreshedChecks, viewWith, passed, ended};
+ghost use Rattle.lane_rules.specs.Calls.{viewWith, passed, ended};
 ghost use Rattle.lanes.specs.Promises.{CachedPromise, RefreshedPromise, DetachPromise};
 
 // The number of an answer and its value.
@@ -37,64 +39,6 @@ fn told(answer: u32, value: u32) -> Told
     ensures { λ r. ⌜ r ≡ record { answer = answer; value = value } ⌝ }
 {
     Told { answer, value }
-}
-
-// The height is 0 or above 32.
-fn bad_height(view: View) -> bool
-    ensures { λ r. ⌜ r ≡ badHeight view ⌝ }
-{
-    if view.height == 0 {
-        return true;
-    }
-    view.height > masks::MOST_LANES
-}
-
-// The view is not guarded, or it is retired, or a lane at or above the height is attached.
-fn bad_view(view: View) -> bool
-    ensures { λ r. ⌜ r ≡ badView view ⌝ }
-{
-    if view.guarded != 1 {
-        return true;
-    }
-    if view.retired != 0 {
-        return true;
-    }
-    masks::lanes_below(view.attached, view.height) != view.attached
-}
-
-// The checks of the cached pass and of detach, in their order.
-fn entry_checks(view: View, strip: &[u8]) -> Verdict
-    ensures { λ r. ⌜ r ≡ entryChecks view (now (strip .entry)) ⌝ }
-{
-    if bad_height(view) {
-        return Verdict::Refused(Answer::Height);
-    }
-    if bad_view(view) {
-        return Verdict::Refused(Answer::View);
-    }
-    if !strips::proper_strip(strip) {
-        return Verdict::Refused(Answer::Strip);
-    }
-    Verdict::Passes
-}
-
-// The checks of the refreshed pass, in their order.
-fn refreshed_checks(view: View, strip: &[u8]) -> Verdict
-    ensures { λ r. ⌜ r ≡ refreshedChecks view (now (strip .entry)) ⌝ }
-{
-    if bad_height(view) {
-        return Verdict::Refused(Answer::Height);
-    }
-    if bad_view(view) {
-        return Verdict::Refused(Answer::View);
-    }
-    if !masks::is_within(view.attached, view.window) {
-        return Verdict::Refused(Answer::Window);
-    }
-    if !strips::proper_strip(strip) {
-        return Verdict::Refused(Answer::Strip);
-    }
-    Verdict::Passes
 }
 
 // The view with other masks and another retired flag.
@@ -190,7 +134,7 @@ pub fn detach_before_retire(view: View, contents: &[u32], strip: &[u8], rounds: 
         Verdict::Refused(answer) => Done { view, answer },
         Verdict::Passes => after_detach(
             view,
-            passes::detach(strip, view.height, rounds, view.attached, view.window),
+            lane_rounds::detach(strip, view.height, rounds, view.attached, view.window),
         ),
     }
 }

@@ -2,4 +2,3 @@
 pub mod Steps
 pub mod Caching
 pub mod Refreshing
-pub mod Rounding

@@ -1,15 +1,15 @@
--- A compare and a refresh at each byte, and one lane of the refreshed pass, as the code leaves them.
+-- A compare at each byte, and one lane of the refreshed pass, as the code leaves them.
 use Prim.Native.Nat.{ℕ, _+_}
 use mathlib.Core.Path.{_≡_}
 use mathlib.Core.List.{List}
 use mathlib.Core.Bool.{true, false}
 use borrow.Author.Tests.{eq-eqb, ne-eqb}
 use Rattle.strips.specs.Strips.{byteAt}
-use Rattle.masks.specs.Masks.{laneIn, cleared, lowestCleared}
+use Rattle.masks.specs.Masks.{laneIn, cleared}
 use Rattle.lane_rules.specs.declared.Said.{Said}
 use Rattle.lane_rules.specs.declared.Compared.{Compared}
 use Rattle.lane_rules.specs.declared.Pass.{Pass}
-use Rattle.lane_rules.specs.Steps.{compared, refreshed}
+use Rattle.lane_rules.specs.Steps.{compared}
 use Rattle.lane_rules.specs.Passes.{bySaid, tryLane}
 
 module _ (byte lane attached : ℕ) where
@@ -32,24 +32,6 @@ module _ (byte lane attached : ℕ) where
       (byte ≡ 0 → ⊥) → (byte ≡ 1 → ⊥) → record { said = Said.Error; attached = attached } ≡ compared byte lane attached
   unfolding compared
   compared-error e f = rw (ne-eqb byte 0 e, ne-eqb byte 1 f)
-
-module _ (byte attached window : ℕ) where
-  pub refreshed-zero :
-      byte ≡ 0 → record { failed = false; attached = attached; window = attached } ≡ refreshed byte attached window
-  unfolding refreshed
-  refreshed-zero e = rw e
-
-  pub refreshed-one :
-      {left : ℕ} → byte ≡ 1 → left ≡ lowestCleared attached →
-      record { failed = false; attached = left; window = left } ≡ refreshed byte attached window
-  unfolding refreshed
-  refreshed-one e l = rw (e, l)
-
-  pub refreshed-error :
-      (byte ≡ 0 → ⊥) → (byte ≡ 1 → ⊥) →
-      record { failed = true; attached = attached; window = window } ≡ refreshed byte attached window
-  unfolding refreshed
-  refreshed-error e f = rw (ne-eqb byte 0 e, ne-eqb byte 1 f)
 
 -- a lane that is skipped, and one that is tried
 module _ (strip : List ℕ) (window lane : ℕ) (p : Pass) where

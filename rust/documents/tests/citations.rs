@@ -56,15 +56,15 @@ fn documents_cite_enough() {
 /// How many names each line cites. All of them are there.
 const RIGHT: &str = "\
 2 `held-at`, `at-held` (laws, Names)
-2 `compare` and `refresh` (passes, src)
+2 `compare` and `after_trying` (passes, src)
 2 (`told-injective` (laws, Answers)), not `this`; `check_guards` (checks, src), not `that` (or that)
 2 `prepare-clauses` .okRecord, .okNamed, `prefix-record` (history, Upstream)
 1 `refreshed-clauses` .pass .valid, .pass .yes, .yesSame (lane_laws, Upstream)
-3 `View` (lane_rules, src), `MOST_INPUT` (buckets, src), `asdrifen_count` (exports_postings, src)
-1 edit `always-25` (lane_rules, passes)
-2 (edits `always-25`, `rounds-made-up` (passes))
-2 edit `always-25` (passes) and `count-named` (buckets)
-3 edit `count-named` (buckets), `any-bad-element` (bucket_laws), `range` (bucket_rules, Examples)
+3 `View` (lane_rules, src), `MOST_INPUT` (bucket_checks, src), `asdrifen_count` (exports_postings, src)
+1 edit `always-25` (lane_rules, lane_rounds)
+2 (edits `always-25`, `rounds-made-up` (lane_rounds))
+2 edit `always-25` (lane_rounds) and `count-named` (bucket_rules)
+3 edit `count-named` (bucket_rules), `any-bad-element` (bucket_laws), `range` (bucket_rules, Examples)
 2 test `small_views`, `edge_views` (comparison)
 0 the promise of that name (exports_lanes, Promises)
 ";
@@ -127,9 +127,9 @@ fn a_wrong_crate_is_reported() {
 fn a_missing_edit_or_test_is_reported() {
     reported(
         "\
-edit `always-26` (passes) => no edit always-26 in passes
-edit `always-25` (passes, lanes) => no edit always-25 in lanes
-edit `always-25` (passes), `always-26` (passes) => no edit always-26 in passes
+edit `always-26` (lane_rounds) => no edit always-26 in lane_rounds
+edit `always-25` (lane_rounds, lanes) => no edit always-25 in lanes
+edit `always-25` (lane_rounds), `always-26` (passes) => no edit always-26 in passes
 test `small_view` (comparison) => no test small_view in comparison
 test `small_views` (model) => no test small_views in model",
     );

@@ -1,8 +1,8 @@
 -- The refusal, or else the passes and rounds.
 use mathlib.Core.Path.{sym, ap, _∙_}
 use borrow.Author.Needs.{needs}
-use Rattle.lanes.proofs.Checking.{height-most}
 use Rattle.lane_rules.specs.Calls.{ended, detachOf}
+use Rattle.lane_laws.proofs.Entry.{detach-passes}
 use Rattle.lanes.specs.Promises.{seen}
 use Rattle.lanes.proofs.detach_before_retire.Statement.{statement}
 use Rattle.lanes.proofs.detach_before_retire.Tie as tie
@@ -17,7 +17,7 @@ enum-told : tie.Need-enum-told
 enum-told c = search needs
 
 detach-requires : tie.Need-detach-requires
-detach-requires c κs = height-most _ _ (sym (c .before .before .entry-checks .ensures) ∙ c .enum-told .given .1)
+detach-requires c κs = detach-passes _ _ .0 (sym (c .before .before .entry-checks .ensures) ∙ c .enum-told .given .1) .0 .most
 
 after-detach-requires : tie.Need-after-detach-requires
 after-detach-requires c κs = search needs

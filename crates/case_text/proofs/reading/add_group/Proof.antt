@@ -7,10 +7,10 @@ use Rattle.case_text.proofs.reading.add_group.Statement.{statement}
 use Rattle.case_text.proofs.reading.add_group.Tie as tie
 
 abbrev Inv-loop : tie.InvT-loop
-Inv-loop group times lists₀ list turn₀ lists turn = length lists ≡ length lists₀
+Inv-loop group times part₀ largest turn₀ part turn = length part ≡ length part₀
 
 abbrev μ-loop : tie.MeasureT-loop
-μ-loop group times lists₀ list turn₀ lists turn = times - turn
+μ-loop group times part₀ largest turn₀ part turn = times - turn
 
 is-digit-at-requires : tie.Need-is-digit-at-requires Inv-loop μ-loop
 is-digit-at-requires c κs = search needs

@@ -7,10 +7,10 @@ use Rattle.case_text.proofs.reading.add_items.Statement.{statement}
 use Rattle.case_text.proofs.reading.add_items.Tie as tie
 
 abbrev Inv-loop : tie.InvT-loop
-Inv-loop text lists₀ list at₀ lists at = length lists ≡ length lists₀
+Inv-loop text part₀ largest at₀ part at = length part ≡ length part₀
 
 abbrev μ-loop : tie.MeasureT-loop
-μ-loop text lists₀ list at₀ lists at = length text - at
+μ-loop text part₀ largest at₀ part at = length text - at
 
 loop-holds : tie.Need-loop-holds Inv-loop μ-loop
 loop-holds c = search needs

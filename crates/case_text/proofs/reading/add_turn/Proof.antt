@@ -7,10 +7,10 @@ use Rattle.case_text.proofs.reading.add_turn.Statement.{statement}
 use Rattle.case_text.proofs.reading.add_turn.Tie as tie
 
 abbrev Inv-loop : tie.InvT-loop
-Inv-loop group turn lists₀ list at₀ lists at = length lists ≡ length lists₀
+Inv-loop group turn part₀ largest at₀ part at = length part ≡ length part₀
 
 abbrev μ-loop : tie.MeasureT-loop
-μ-loop group turn lists₀ list at₀ lists at = length group - at
+μ-loop group turn part₀ largest at₀ part at = length group - at
 
 loop-holds : tie.Need-loop-holds Inv-loop μ-loop
 loop-holds c = search needs

@@ -1,12 +1,12 @@
--- `same` reads both words within their length.
-use Prim.Native.Nat.{_≤_, _-_}
+-- `same` reads both words within their length, which is one.
+use Prim.Native.Nat.{_-_}
 use lib.ListN.{length}
 use borrow.Author.Needs.{needs}
 use Rattle.case_text.proofs.reading.same.Statement.{statement}
 use Rattle.case_text.proofs.reading.same.Tie as tie
 
 abbrev Inv-loop : tie.InvT-loop
-Inv-loop word other at₀ at = at ≤ length word
+Inv-loop word other at₀ at = Unit
 
 abbrev μ-loop : tie.MeasureT-loop
 μ-loop word other at₀ at = length word - at
@@ -17,11 +17,11 @@ returns c = search needs
 loop-holds : tie.Need-loop-holds Inv-loop μ-loop
 loop-holds c = search needs
 
-shared-slice-read-if3 : tie.Need-shared-slice-read-if3 Inv-loop μ-loop
-shared-slice-read-if3 c = search needs
+shared-slice-read-if2 : tie.Need-shared-slice-read-if2 Inv-loop μ-loop
+shared-slice-read-if2 c = search needs
 
-shared-slice-read-if3-2 : tie.Need-shared-slice-read-if3-2 Inv-loop μ-loop
-shared-slice-read-if3-2 c = search needs
+shared-slice-read-if2-2 : tie.Need-shared-slice-read-if2-2 Inv-loop μ-loop
+shared-slice-read-if2-2 c = search needs
 
 returns-2 : tie.Need-returns-2 Inv-loop μ-loop
 returns-2 c = search needs
@@ -38,9 +38,6 @@ loop-again c = search needs
 returns-3 : tie.Need-returns-3 Inv-loop μ-loop
 returns-3 c = search needs
 
-returns-4 : tie.Need-returns-4 Inv-loop μ-loop
-returns-4 c = search needs
-
 pub same-spec : {M : Type 1} → statement M
 same-spec =
     tie.close
@@ -49,11 +46,10 @@ same-spec =
     μ-loop
     returns
     loop-holds
-    shared-slice-read-if3
-    shared-slice-read-if3-2
+    shared-slice-read-if2
+    shared-slice-read-if2-2
     returns-2
     add-at
     loop-less
     loop-again
-    returns-3
-    returns-4)
+    returns-3)
