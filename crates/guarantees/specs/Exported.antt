@@ -149,11 +149,11 @@ pub record RefusedAcross (x : Index) (m : Crossed) : Type 0 where
 abbrev pub MakesAgain : List Called → List Called → Type 0
 MakesAgain ms ns = AllAgain (takenCalls ms) (map lentTo (publishesOf ns))
 
--- the record that a publish wrote which told 0: as many numbers as it named, at the front of its list
+-- the record of a publish that told 0: as many numbers as it named, at the front of its list
 abbrev pub recordBy : Crossed → List ℕ
 recordBy m = take (m .told .named) (m .recordList)
 
--- a publish, made again, did the same: it told the same numbers, left the same head and table, and wrote the same record to the front
+-- made again, a publish did the same: it told the same numbers, left the same head and table, and wrote the same record to the front
 -- of the list that it was lent now, whose later places stayed
 pub record DidAgain (m n : Crossed) : Type 0 where
   pub told : n .told ≡ m .told
