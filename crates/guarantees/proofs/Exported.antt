@@ -17,8 +17,10 @@ use Rattle.rules.specs.Answers.{toldOf, isAccepted, poisons}
 use Rattle.rules.specs.Orders.{held, Call, lending}
 use Rattle.rules.specs.Postings.{present, counted}
 use Rattle.rules.specs.Calls.{Outcome, asBefore, prepareOf, rollbackOf, removalOf, publishOf, countOf}
-use Rattle.history.specs.History.{Index, published, countedIn, indexOf, postingsIn, said, saidOf, ownCount, holding, Holds, CountSaid}
+use Rattle.history.specs.History.{Index, published, countedIn, indexOf, postingsIn, said, saidOf, ownCount, holding, Again, AllAgain, relent, relentAll, Holds, Alike, CountSaid}
+use Rattle.history.specs.Acceptance.{Acceptable}
 use Rattle.history.proofs.History.{empty-holds}
+use Rattle.laws.proofs.Checks.{lent-proper, publish-passed, publish-clear}
 use Rattle.publish.specs.Promises as posting
 use Rattle.guarding.specs.Asking.{flat}
 use Rattle.entry.specs.Promises.{EntryPromise}
@@ -40,8 +42,9 @@ use Rattle.exports_lent.specs.Promises.{LentPublishPromise, HeldPromise}
 use Rattle.exports_lanes.specs.declared.Detached.{Detached}
 use Rattle.exports_lanes.specs.Promises.{laneSeen, CachedPromise, RefreshedPromise, DetachPromise}
 use Rattle.exports_buckets.specs.Promises.{BucketSeen, bucketSeen, threeNumbers, withOther, SortPromise, BitmapPromise, PrecedesPromise}
-use Rattle.guarantees.specs.Runs.{Made, outcome, Kept, Run, end, calls, taken, sound, CallsRight, CallsWithheld, CallsRightOrWithheld}
-use Rattle.guarantees.specs.Exported.{Behind, GuardsLent, numbersOf, Crossed, lentTo, leftBy, promised, KeptAcross, Called, RunAcross, endAcross, takenAcross, soundAcross, takenCalls, AllInner, CountTold, RefusedAcross, AcrossRightOrWithheld}
+use Rattle.guarantees.specs.Runs.{Made, outcome, Kept, Run, end, calls, seenAfter, taken, sound, CallsRight, CallsWithheld, CallsRightOrWithheld}
+use Rattle.guarantees.specs.Exported.{Behind, GuardsLent, numbersOf, Crossed, lentTo, leftBy, promised, KeptAcross, Called, RunAcross, endAcross, takenAcross, soundAcross, takenCalls, publishesOf, Inner, AllInner, CountTold, RefusedAcross, MakesAgain, DidAgain, AllDidAgain, Replayed, AcrossRightOrWithheld}
+use Rattle.guarantees.proofs.Acceptance.{accepted-exactly}
 use Rattle.guarantees.proofs.History.{calls-right-or-withheld}
 
 -- a posting call: the answer of the rules' outcome, with head, table and record list as they came back
@@ -231,26 +234,40 @@ classes-told (Answer.Undo i) = (refl, refl)
 classes-told (Answer.Source i) = (refl, refl)
 classes-told (Answer.Record place) = (refl, refl)
 
--- the numbers that the publishes told say of the inner calls whether one broke and which were accepted
+-- the numbers that the publishes told say of the inner calls whether one broke
 inner-sound : {ms : List Called} {ns : List Made} → AllInner ms ns → sound ns ≡ soundAcross ms
 unfolding sound soundAcross
 inner-sound AllInner.none = refl
 inner-sound (AllInner.count r) = inner-sound r
 inner-sound (AllInner.publish {n = n} i r) = rw (classes-told (n .result .answer) .1, i .told, inner-sound r)
 
-same-calls :
-    (b : Bool) (n : Made) (m : Crossed) (ns : List Made) (ms : List Crossed) → n .call ≡ lentTo m → calls ns ≡ map lentTo ms →
-    calls (cond b (n ∷ ns) ns) ≡ map lentTo (cond b (m ∷ ms) ms)
-same-calls true n m ns ms e f = cc
-same-calls false n m ns ms e f = f
+-- and which were accepted: those behind the publishes that told 0
+inner-accepted : {ms : List Called} {ns : List Made} → AllInner ms ns → AllInner (map Called.publish (takenAcross ms)) (taken ns)
+unfolding taken takenAcross
+inner-accepted AllInner.none = AllInner.none
+inner-accepted (AllInner.count r) = inner-accepted r
+inner-accepted (AllInner.publish {m = m} {n = n} {ms = ms} {ns = ns} i r) =
+    rw (classes-told (n .result .answer) .0, i .told) (go (eqb (m .told .answer) 0) (inner-accepted r))
+  where
+    go :
+        (b : Bool) → AllInner (map Called.publish (takenAcross ms)) (taken ns) →
+        AllInner (map Called.publish (cond b (m ∷ takenAcross ms) (takenAcross ms))) (cond b (n ∷ taken ns) (taken ns))
+    go true q = AllInner.publish i q
+    go false q = q
+
+-- behind counts there is none, so those of a run are behind its publishes, and were lent the same
+inner-publishes : {ms : List Called} {ns : List Made} → AllInner ms ns → AllInner (map Called.publish (publishesOf ms)) ns
+unfolding publishesOf
+inner-publishes AllInner.none = AllInner.none
+inner-publishes (AllInner.count r) = inner-publishes r
+inner-publishes (AllInner.publish i r) = AllInner.publish i (inner-publishes r)
+
+inner-calls : (ms : List Crossed) {ns : List Made} → AllInner (map Called.publish ms) ns → calls ns ≡ map lentTo ms
+inner-calls [] AllInner.none = refl
+inner-calls (m ∷ ms) (AllInner.publish i r) = λ k. i .call k ∷ inner-calls ms r k
 
 inner-taken : {ms : List Called} {ns : List Made} → AllInner ms ns → calls (taken ns) ≡ takenCalls ms
-unfolding taken takenAcross
-inner-taken AllInner.none = refl
-inner-taken (AllInner.count r) = inner-taken r
-inner-taken (AllInner.publish {m = m} {n = n} {ms = ms} {ns = ns} i r) =
-    rw (classes-told (n .result .answer) .0, i .told)
-    (same-calls (eqb (m .told .answer) 0) n m (taken ns) (takenAcross ms) (i .call) (inner-taken r))
+inner-taken {ms} i = inner-calls (takenAcross ms) (inner-accepted i)
 
 inner-end : (x : Index) {ms : List Called} {ns : List Made} → AllInner ms ns → end x ns ≡ endAcross x ms
 unfolding end endAcross
@@ -258,6 +275,28 @@ inner-end x AllInner.none = refl
 inner-end x (AllInner.count r) = inner-end x r
 inner-end x (AllInner.publish {m = m} {ns = ns} i r) =
     ap (λ (y : Index). end y ns) (λ j. record { head = i .head j; table = i .table j }) ∙ inner-end (leftBy m) r
+
+-- an inner call that answered and left what another did, with its record in the list that was lent now: so did the publishes
+inner-did-again :
+    {m n : Crossed} {a b : Made} → Inner m a → Inner n b → outcome b ≡ relent (b .call) (outcome a) → DidAgain m n
+inner-did-again {m} {n} {a} {b} i j e =
+    record {
+      told = sym (j .told) ∙ (ap (λ (o : Outcome). toldOf (o .answer)) e ∙ i .told);
+      index =
+          (λ k. record { head = sym (j .head) k; table = sym (j .table) k })
+          ∙ (ap indexOf e ∙ (λ k. record { head = i .head k; table = i .table k }));
+      recordList =
+          sym (j .recordList) ∙ (ap (λ (o : Outcome). o .recordList) e ∙ rw (i .told, i .recordList, j .call));
+    }
+
+-- one by one
+all-did-again :
+    (ms ns : List Crossed) {os ps : List Made} → AllAgain (map lentTo ms) (map lentTo ns) → AllInner (map Called.publish ms) os →
+    AllInner (map Called.publish ns) ps → seenAfter ps ≡ relentAll (calls ps) (seenAfter os) → AllDidAgain ms ns
+unfolding relentAll
+all-did-again [] [] AllAgain.none i j e = AllDidAgain.none
+all-did-again (m ∷ ms) (n ∷ ns) (AllAgain.next a q) (AllInner.publish i r) (AllInner.publish j t) e =
+    AllDidAgain.next (inner-did-again i j (cc)) (all-did-again ms ns q r t (cc))
 
 -- the first calls of a run are a run, and so are those after them
 across-before : {x : Index} (ms ns : List Called) → RunAcross x (ms ++ ns) → RunAcross x ms
@@ -332,6 +371,21 @@ module _ (x : Index) (start : List Posting) (h : Holds x start) (ms : List Calle
       (w .counts binding key (countOf (end x (behind .0) .head) (end x (behind .0) .table) binding key) refl) in
       count-told x start (takenCalls ms) binding key told (k ∙ ap toldOf own) (rw (← inner-taken (behind .1)) (w .rows binding key))
 
+  replay-right :
+      soundAcross ms ≡ true → (y : Index) (ns : List Called) → Holds y start → Alike x y → RunAcross y ns → MakesAgain ms ns →
+      Replayed x ms y ns
+  replay-right s y ns hy al ry again =
+      let w = right-behind s in
+      let f = exported-run y ns ry in
+      let same : AllAgain (calls (taken (behind .0))) (calls (f .0)) =
+      rw (inner-taken (behind .1), inner-calls (publishesOf ns) (inner-publishes (f .2))) again in
+      record {
+        index = sym (inner-end y (f .2)) ∙ (w .again y (f .0) hy al (f .1) same ∙ inner-end x (behind .1));
+        publishes =
+            all-did-again (takenAcross ms) (publishesOf ns) again (inner-accepted (behind .1)) (inner-publishes (f .2))
+            (w .againRecords y (f .0) hy al (f .1) same);
+      }
+
   count-withheld :
       soundAcross ms ≡ false → (binding key : ℕ) (told : Told) →
       CountPromise (endAcross x ms .head) (endAcross x ms .table) binding key told →
@@ -374,6 +428,7 @@ module _ (x : Index) (start : List Posting) (h : Holds x start) where
             λ before later binding key told e s.
             let k = counted-next (rest before (Called.count binding key told ∷ later) e) in
             count-right x start h before (first before (Called.count binding key told ∷ later) e) s binding key told k;
+        again = λ before later e s. replay-right x start h before (first before later e) s;
         withheld =
             λ before later binding key told e s.
             let k = counted-next (rest before (Called.count binding key told ∷ later) e) in
@@ -396,6 +451,14 @@ pub across-right-or-withheld-from-empty :
     (x : Index) → wellFormed (x .head) (x .table) ≡ true → x .head .poisoned ≡ 0 → x .head .used ≡ 0 → (ms : List Called) →
     RunAcross x ms → AcrossRightOrWithheld x [] ms
 across-right-or-withheld-from-empty x f p u = across-right-or-withheld x [] (empty-holds x f p u)
+
+-- REPLAY, in the numbers that cross, from one empty table to another of equal size and binding count
+pub across-replayed-from-empty :
+    (x : Index) → wellFormed (x .head) (x .table) ≡ true → x .head .poisoned ≡ 0 → x .head .used ≡ 0 → (ms : List Called) →
+    RunAcross x ms → soundAcross ms ≡ true → (y : Index) → wellFormed (y .head) (y .table) ≡ true → y .head .poisoned ≡ 0 →
+    y .head .used ≡ 0 → Alike x y → (ns : List Called) → RunAcross y ns → MakesAgain ms ns → Replayed x ms y ns
+across-replayed-from-empty x f p u ms r s y g q v al ns ry again =
+    replay-right x [] (empty-holds x f p u) ms r s y ns (empty-holds y g q v) al ry again
 
 -- the same calls, each with what the rules tell and leave there
 pub told-by-rules : Index → List Called → List Called
@@ -432,3 +495,43 @@ told-by-rules-run x [] = RunAcross.none
 told-by-rules-run x (Called.publish m ∷ ms) =
     RunAcross.publish (promise-kept-across x _ (m .guards) refl) (told-by-rules-run (indexOf (published x (lentTo m))) ms)
 told-by-rules-run x (Called.count binding key told ∷ ms) = RunAcross.count refl (told-by-rules-run x ms)
+
+-- an acceptable call is one made again with no storage failure, just as it was: it had room, and every byte that it read was 0
+acceptable-again : (head : Head) (table : List ℕ) (c : Call) → Acceptable head table c → Again c c
+acceptable-again head table c k =
+    record {
+      changeList = refl;
+      guardList = refl;
+      room = publish-clear head table c (k .passes) .places;
+      proper = lent-proper _ _ _ (publish-passed head table c (k .passes) .lent) .1;
+      quiet = k .quiet;
+    }
+
+taken-again : (x : Index) (ms : List Called) → RunAcross x ms → AllAgain (takenCalls ms) (takenCalls ms)
+unfolding takenAcross
+taken-again x [] RunAcross.none = AllAgain.none
+taken-again x (Called.count binding key told ∷ ms) (RunAcross.count k r) = taken-again x ms r
+taken-again x (Called.publish m ∷ ms) (RunAcross.publish k r) =
+    go (eqb (m .told .answer) 0) refl (taken-again (leftBy m) ms r)
+  where
+    told-0 : eqb (m .told .answer) 0 ≡ true → Acceptable (x .head) (x .table) (lentTo m)
+    told-0 e =
+        let b = publish-behind x m (m .guards) k in
+        accepted-exactly (x .head) (x .table) (lentTo m) (madeBy m (b .answer) .result) (m .table) (m .recordList) (b .promise) .0
+        (classes-told (b .answer) .0 ∙ rw (b .numbers) e)
+
+    go :
+        (b : Bool) → eqb (m .told .answer) 0 ≡ b → AllAgain (takenCalls ms) (takenCalls ms) →
+        AllAgain (map lentTo (cond b (m ∷ takenAcross ms) (takenAcross ms))) (map lentTo (cond b (m ∷ takenAcross ms) (takenAcross ms)))
+    go true e q = AllAgain.next (acceptable-again (x .head) (x .table) (lentTo m) (told-0 e)) q
+    go false e q = q
+
+lent-by-rules : (y : Index) (ms : List Crossed) → map lentTo (publishesOf (told-by-rules y (map Called.publish ms))) ≡ map lentTo ms
+unfolding told-by-rules publishesOf
+lent-by-rules y [] = refl
+lent-by-rules y (m ∷ ms) = ap (λ l. lentTo m ∷ l) (lent-by-rules (indexOf (published y (lentTo m))) ms)
+
+-- nor is the claim of replays: the publishes of a run that told 0, made again just as they were, are such a run on any head and table
+pub replay-by-rules :
+    (x : Index) (ms : List Called) → RunAcross x ms → (y : Index) → MakesAgain ms (told-by-rules y (map Called.publish (takenAcross ms)))
+replay-by-rules x ms r y = rw (lent-by-rules y (takenAcross ms)) (taken-again x ms r)

@@ -1,11 +1,13 @@
 -- What C and Rust get back are numbers: behind them is an answer of the inner call, of which that call's promise holds. And the
 -- calls of a program, one after the other: publishes of either exported form, and counts. What is right and what is withheld is
--- said of the numbers that these calls told.
+-- said of the numbers that these calls told, and so is what a replay tells and leaves.
 use Prim.Native.Nat.{ℕ, _<_, _≤_}
 use mathlib.Core.Path.{_≡_}
 use mathlib.Core.List.{List, [], _∷_, _++_, map}
 use mathlib.Core.Bool.{Bool, true, false, cond, not, _&&_, _||_}
+use lib.ListN.{take}
 use lib.Dec.{eqb}
+use Rattle.lent_lists.specs.Written.{written}
 use Rattle.rules.specs.declared.Guard.{Guard}
 use Rattle.rules.specs.declared.Head.{Head}
 use Rattle.rules.specs.declared.Posting.{Posting}
@@ -13,7 +15,7 @@ use Rattle.rules.specs.declared.Told.{Told}
 use Rattle.rules.specs.Answers.{toldOf}
 use Rattle.rules.specs.Orders.{Call, lending}
 use Rattle.rules.specs.Postings.{present}
-use Rattle.history.specs.History.{Index, postingsIn, said, saidOf, holding, CountSaid}
+use Rattle.history.specs.History.{Index, postingsIn, said, saidOf, holding, AllAgain, Holds, Alike, CountSaid}
 use Rattle.guarding.specs.Asking.{flat}
 use Rattle.exports_postings.specs.Promises.{PublishPromise, CountPromise}
 use Rattle.exports_lent.specs.Promises.{LentPublishPromise}
@@ -104,6 +106,12 @@ soundAcross (Called.count binding key told ∷ ms) = soundAcross ms
 abbrev pub takenCalls : List Called → List Call
 takenCalls ms = map lentTo (takenAcross ms)
 
+-- the publishes of a run, whatever they told
+unfoldable pub publishesOf : List Called → List Crossed
+publishesOf [] = []
+publishesOf (Called.publish m ∷ ms) = m ∷ publishesOf ms
+publishesOf (Called.count binding key told ∷ ms) = publishesOf ms
+
 -- the inner call behind a publish: lent the same, it told the same numbers and left the same
 pub record Inner (m : Crossed) (n : Made) : Type 0 where
   pub call : n .call ≡ lentTo m
@@ -135,6 +143,34 @@ pub record RefusedAcross (x : Index) (m : Crossed) : Type 0 where
   pub index : leftBy m ≡ x
   pub recordList : m .recordList ≡ m .list
 
+-- a run makes again, with no storage failure, the publishes of another that told 0: one by one, through either form, the same changes
+-- and the same guards by their numbers, any proper strip of which every byte that is read is 0, and any record list with a place for
+-- each change. It may count in between
+abbrev pub MakesAgain : List Called → List Called → Type 0
+MakesAgain ms ns = AllAgain (takenCalls ms) (map lentTo (publishesOf ns))
+
+-- the record of a publish that told 0: as many numbers as it named, at the front of its list
+abbrev pub recordBy : Crossed → List ℕ
+recordBy m = take (m .told .named) (m .recordList)
+
+-- made again, a publish did the same: it told the same numbers, left the same head and table, and wrote the same record to the front
+-- of the list that it was lent now, whose later places stayed
+pub record DidAgain (m n : Crossed) : Type 0 where
+  pub told : n .told ≡ m .told
+  pub index : leftBy n ≡ leftBy m
+  pub recordList : n .recordList ≡ written (recordBy m) (n .list)
+
+-- one by one
+pub data AllDidAgain : List Crossed → List Crossed → Type 0 where
+  none : AllDidAgain [] []
+  next : {m n : Crossed} {ms ns : List Crossed} → DidAgain m n → AllDidAgain ms ns → AllDidAgain (m ∷ ms) (n ∷ ns)
+
+-- a run from y on is a replay of one from x on: it leaves the same head and table, and each of its publishes did what the publish
+-- that told 0 at its place did
+pub record Replayed (x : Index) (ms : List Called) (y : Index) (ns : List Called) : Type 0 where
+  pub index : endAcross y ns ≡ endAcross x ms
+  pub publishes : AllDidAgain (takenAcross ms) (publishesOf ns)
+
 -- any run, at each of its calls: right as long as no publish before it told 12 or 13, and then withheld
 pub record AcrossRightOrWithheld (x : Index) (start : List Posting) (ms : List Called) : Type 0 where
   -- as long as none told 12 or 13, head and table are what the publishes that told 0 say, in order: destinations added, sources
@@ -149,6 +185,11 @@ pub record AcrossRightOrWithheld (x : Index) (start : List Posting) (ms : List C
   pub counts :
       (before later : List Called) (binding key : ℕ) (told : Told) → ms ≡ before ++ Called.count binding key told ∷ later →
       soundAcross before ≡ true → CountTold x start (takenCalls before) binding key told
+  -- and the publishes that told 0, made again on a head and table of equal size and binding count that hold the same start, leave the
+  -- same head and table, tell the same numbers and write the same records
+  pub again :
+      (before later : List Called) → ms ≡ before ++ later → soundAcross before ≡ true →
+      (y : Index) (ns : List Called) → Holds y start → Alike x y → RunAcross y ns → MakesAgain before ns → Replayed x before y ns
   -- once one told 12 or 13, each count tells 2
   pub withheld :
       (before later : List Called) (binding key : ℕ) (told : Told) → ms ≡ before ++ Called.count binding key told ∷ later →
