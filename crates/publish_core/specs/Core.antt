@@ -8,7 +8,7 @@ use Rattle.rules.specs.declared.Head.{Head}
 use Rattle.rules.specs.declared.Verdict.{Verdict}
 use Rattle.rules.specs.Limits.{mostChanges}
 use Rattle.rules.specs.Table.{postings, wellFormed}
-use Rattle.rules.specs.Orders.{changes, lending}
+use Rattle.rules.specs.Orders.{changes}
 use Rattle.rules.specs.Checks.{firstRefusal, arrivingChecks, leavingChecks}
 use Rattle.rules.specs.Calls.{Outcome, asBefore, unlessRefused, publishWork}
 
@@ -24,4 +24,4 @@ coreOf head table cs earlier strip list =
     unlessRefused
     (firstRefusal (earlier ∷ arrivingChecks (postings (head .used) table) (changes cs) ∷ leavingChecks (changes cs) ∷ []))
     (asBefore head table list)
-    (publishWork head table (lending cs [] strip list))
+    (publishWork head table (changes cs) strip list)

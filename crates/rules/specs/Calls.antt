@@ -5,6 +5,7 @@ use mathlib.Core.Bool.{cond}
 use lib.ListN.{length}
 use Rattle.lent_lists.specs.Written.{written}
 use Rattle.rules.specs.declared.Posting.{Posting}
+use Rattle.rules.specs.declared.Change.{Change}
 use Rattle.rules.specs.declared.Head.{Head}
 use Rattle.rules.specs.declared.Done.{Done}
 use Rattle.rules.specs.declared.Answer.{Answer}
@@ -58,51 +59,59 @@ shown head table list s =
 abbrev pub recordAfter : Stage → List Numbered → List ℕ → List ℕ
 recordAfter stage ds list = cond (isAccepted (stage .answer)) (written (changeNumbers ds) list) list
 
-module _ (head : Head) (table : List ℕ) (c : Call) where
+-- The work of a call that no check refused, over what it looks at: the changes, the strip and the record list.
+module _ (head : Head) (table : List ℕ) (cs : List Change) (strip : List ℕ) where
   -- the prepare part of prepare and publish
-  abbrev pub prepared : Stage
-  prepared =
-      preparing (capacity table) (c .strip) (destinations (changesOf c)) [] 0 (postings (head .used) table)
+  abbrev pub preparation : Stage
+  preparation = preparing (capacity table) strip (destinations cs) [] 0 (postings (head .used) table)
 
-  -- what each call does that no check refused: prepare, with its record
-  abbrev pub prepareWork : Outcome
-  prepareWork = shown head table (recordAfter prepared (destinations (changesOf c)) (c .recordList)) prepared
+  -- prepare, with its record
+  abbrev pub prepareWork : List ℕ → Outcome
+  prepareWork list = shown head table (recordAfter preparation (destinations cs) list) preparation
 
   -- rollback, over its record from the end to the start
-  abbrev pub rollbackWork : Outcome
-  rollbackWork =
-      shown head table (c .recordList)
-      (rolledBack
-      (undoing (c .strip) (reverse (recorded (changesOf c) (c .recordList))) Verdict.Passes 0
-      (postings (head .used) table)))
+  abbrev pub rollbackWork : List ℕ → Outcome
+  rollbackWork list =
+      shown head table list
+      (rolledBack (undoing strip (reverse (recorded cs list)) Verdict.Passes 0 (postings (head .used) table)))
 
   -- source removal
-  abbrev pub removalWork : Outcome
-  removalWork =
-      shown head table (c .recordList)
-      (removing (c .strip) (Answer.Accepted 0) (sources (changesOf c)) 0 (postings (head .used) table))
+  abbrev pub removalWork : List ℕ → Outcome
+  removalWork list = shown head table list (removing strip (Answer.Accepted 0) (sources cs) 0 (postings (head .used) table))
 
   -- publish: prepare, then source removal
-  abbrev pub publishWork : Outcome
-  publishWork =
-      shown head table (recordAfter prepared (destinations (changesOf c)) (c .recordList))
-      (thenSources (c .strip) (sources (changesOf c)) prepared)
+  abbrev pub publishWork : List ℕ → Outcome
+  publishWork list =
+      shown head table (recordAfter preparation (destinations cs) list) (thenSources strip (sources cs) preparation)
+
+module _ (head : Head) (table : List ℕ) (c : Call) where
+  -- the prepare part of a call
+  abbrev pub prepared : Stage
+  prepared = preparation head table (changesOf c) (c .strip)
 
   -- the calls: prepare_index_destinations
   unfoldable pub prepareOf : Outcome
-  prepareOf = unlessRefused (prepareChecks head table c) (asBefore head table (c .recordList)) prepareWork
+  prepareOf =
+      unlessRefused (prepareChecks head table c) (asBefore head table (c .recordList))
+      (prepareWork head table (changesOf c) (c .strip) (c .recordList))
 
   -- rollback_index_destinations
   unfoldable pub rollbackOf : Outcome
-  rollbackOf = unlessRefused (rollbackChecks head table c) (asBefore head table (c .recordList)) rollbackWork
+  rollbackOf =
+      unlessRefused (rollbackChecks head table c) (asBefore head table (c .recordList))
+      (rollbackWork head table (changesOf c) (c .strip) (c .recordList))
 
   -- remove_index_sources
   unfoldable pub removalOf : Outcome
-  removalOf = unlessRefused (removalChecks head table c) (asBefore head table (c .recordList)) removalWork
+  removalOf =
+      unlessRefused (removalChecks head table c) (asBefore head table (c .recordList))
+      (removalWork head table (changesOf c) (c .strip) (c .recordList))
 
   -- publish
   unfoldable pub publishOf : Outcome
-  publishOf = unlessRefused (publishChecks head table c) (asBefore head table (c .recordList)) publishWork
+  publishOf =
+      unlessRefused (publishChecks head table c) (asBefore head table (c .recordList))
+      (publishWork head table (changesOf c) (c .strip) (c .recordList))
 
 -- count: how many postings a binding and key have; an absent key has 0
 unfoldable pub countOf : Head → List ℕ → ℕ → ℕ → Answer

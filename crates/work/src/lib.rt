@@ -11,19 +11,17 @@ use steps_sources::remove_sources;
 use steps_sources::write_record;
 ghost use Prim.Native.Nat.{_≤_, _<_, _^_};
 ghost use mathlib.Core.Path.{_≡_};
-ghost use mathlib.Core.List.{[], reverse};
+ghost use mathlib.Core.List.{[]};
 ghost use mathlib.Core.Bool.{true, cond};
 ghost use lib.ListN.{length};
 ghost use lib.Dec.{ltb};
 ghost use Rattle.rules.specs.declared.Answer.{Answer};
-ghost use Rattle.rules.specs.declared.Verdict.{Verdict};
 ghost use Rattle.rules.specs.Limits.{mostChanges};
 ghost use Rattle.rules.specs.Postings.{every, counted};
 ghost use Rattle.rules.specs.Table.{postings, wellFormed};
-ghost use Rattle.rules.specs.Orders.{changes, destinations, sources, recorded, lending};
+ghost use Rattle.rules.specs.Orders.{changes};
 ghost use Rattle.rules.specs.Answers.{poisons};
-ghost use Rattle.rules.specs.Publication.{undoing, removing, rolledBack, thenSources};
-ghost use Rattle.rules.specs.Calls.{headWith, shown, recordAfter, prepared, outcomeOf};
+ghost use Rattle.rules.specs.Calls.{headWith, outcomeOf, prepareWork, rollbackWork, removalWork, publishWork};
 
 // The answer that was reached, and the head beside the table as it now is.
 fn done(head: Head, reached: Reached) -> Done
@@ -52,10 +50,8 @@ pub fn prepare(
 ) -> Done
     requires { ⌜ wellFormed head (now table) ≡ true ⌝ }
     requires { ⌜ (length (changes (now list)) ≤ mostChanges) × (length (changes (now list)) ≤ length (now «record»)) ⌝ }
-    ensures { λ r. ⌜ outcomeOf r (now (table .exit)) (now («record» .exit)) ≡ shown head (now (table .entry))
-        (recordAfter (prepared head (now (table .entry)) (lending (now (list .entry)) [] (now (strip .entry)) []))
-        (destinations (changes (now (list .entry)))) (now («record» .entry)))
-        (prepared head (now (table .entry)) (lending (now (list .entry)) [] (now (strip .entry)) [])) ⌝ }
+    ensures { λ r. ⌜ outcomeOf r (now (table .exit)) (now («record» .exit)) ≡ prepareWork head (now (table .entry)) (changes (now (list .entry)))
+        (now (strip .entry)) (now («record» .entry)) ⌝ }
 {
     let inserted = steps::prepare(table, list, strip, head.used as usize);
     let answer = inserted.answer;
@@ -75,11 +71,8 @@ pub fn publish(
 ) -> Done
     requires { ⌜ wellFormed head (now table) ≡ true ⌝ }
     requires { ⌜ (length (changes (now list)) ≤ mostChanges) × (length (changes (now list)) ≤ length (now «record»)) ⌝ }
-    ensures { λ r. ⌜ outcomeOf r (now (table .exit)) (now («record» .exit)) ≡ shown head (now (table .entry))
-        (recordAfter (prepared head (now (table .entry)) (lending (now (list .entry)) [] (now (strip .entry)) []))
-        (destinations (changes (now (list .entry)))) (now («record» .entry)))
-        (thenSources (now (strip .entry)) (sources (changes (now (list .entry))))
-        (prepared head (now (table .entry)) (lending (now (list .entry)) [] (now (strip .entry)) []))) ⌝ }
+    ensures { λ r. ⌜ outcomeOf r (now (table .exit)) (now («record» .exit)) ≡ publishWork head (now (table .entry)) (changes (now (list .entry)))
+        (now (strip .entry)) (now («record» .entry)) ⌝ }
 {
     let brought = steps::prepare(table, list, strip, head.used as usize);
     let answer = brought.answer;
@@ -96,11 +89,8 @@ pub fn rollback(head: Head, table: &mut [u32], list: &[u32], strip: &[u8], recor
     requires { ⌜ wellFormed head (now table) ≡ true ⌝ }
     requires { ⌜ length (changes (now list)) ≤ mostChanges ⌝ }
     requires { ⌜ every (λ n. ltb n (length (changes (now list)))) (now «record») ≡ true ⌝ }
-    ensures { λ r. ⌜ outcomeOf r (now (table .exit)) (now («record» .entry)) ≡ shown head (now (table .entry))
-        (now («record» .entry))
-        (rolledBack
-        (undoing (now (strip .entry)) (reverse (recorded (changes (now (list .entry))) (now («record» .entry))))
-        Verdict.Passes 0 (postings (head .used) (now (table .entry))))) ⌝ }
+    ensures { λ r. ⌜ outcomeOf r (now (table .exit)) (now («record» .entry)) ≡ rollbackWork head (now (table .entry)) (changes (now (list .entry)))
+        (now (strip .entry)) (now («record» .entry)) ⌝ }
 {
     let back = steps_undo::rollback(table, list, strip, record, head.used as usize);
     let verdict = back.verdict;
@@ -118,9 +108,7 @@ pub fn rollback(head: Head, table: &mut [u32], list: &[u32], strip: &[u8], recor
 pub fn remove(head: Head, table: &mut [u32], list: &[u32], strip: &[u8]) -> Done
     requires { ⌜ wellFormed head (now table) ≡ true ⌝ }
     requires { ⌜ length (changes (now list)) ≤ mostChanges ⌝ }
-    ensures { λ r. ⌜ outcomeOf r (now (table .exit)) [] ≡ shown head (now (table .entry)) []
-        (removing (now (strip .entry)) (Answer.Accepted 0) (sources (changes (now (list .entry)))) 0
-        (postings (head .used) (now (table .entry)))) ⌝ }
+    ensures { λ r. ⌜ outcomeOf r (now (table .exit)) [] ≡ removalWork head (now (table .entry)) (changes (now (list .entry))) (now (strip .entry)) [] ⌝ }
 {
     let cleared = remove_sources(
         table,
