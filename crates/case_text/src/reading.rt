@@ -21,7 +21,7 @@ struct Item {
 }
 
 // Whether two words are the same.
-pub fn same(word: &[u8], other: &[u8]) -> bool {
+fn same(word: &[u8], other: &[u8]) -> bool {
     if word.len() != other.len() {
         return false;
     }
@@ -52,7 +52,7 @@ pub fn find(text: &[u8], from: usize, byte: u8) -> usize
 }
 
 // Whether a byte stands at a place.
-pub fn stands(text: &[u8], at: usize, byte: u8) -> bool {
+fn stands(text: &[u8], at: usize, byte: u8) -> bool {
     if at < text.len() {
         return text[at] == byte;
     }
@@ -263,7 +263,7 @@ fn add_items(text: &[u8], part: &mut [u32], largest: u32) -> bool {
 }
 
 // Whether a line says nothing: it is empty or a comment.
-pub fn is_silent(line: &[u8]) -> bool {
+fn is_silent(line: &[u8]) -> bool {
     line.len() == 0 || stands(line, 0, b'#')
 }
 
