@@ -10,7 +10,6 @@ use rules::Key;
 use rules::Verdict;
 ghost use Prim.Native.Nat.{_+_, _<_, _≤_};
 ghost use mathlib.Core.Path.{_≡_};
-ghost use mathlib.Core.List.{[]};
 ghost use mathlib.Core.Bool.{not, _&&_};
 ghost use lib.ListN.{length, take};
 ghost use lib.Dec.{eqb, ltb};

@@ -1,16 +1,14 @@
 -- The head set in place is the head that publish leaves: a publish keeps the binding count, and sets the flag at 12 and 13 alone.
 use Prim.Native.Nat.{ℕ}
-use native.Mathlib.Omega.{arith}
-use mathlib.Core.Path.{_≡_, refl, sym, ap, _∙_}
+use mathlib.Core.Path.{_≡_, refl, sym}
 use mathlib.Core.List.{List}
 use mathlib.Core.Bool.{Bool, true, false, not, cond}
-use lib.Dec.{T, eqb, leb}
+use lib.Dec.{T, eqb}
 use lib.ListN.{length}
 use borrow.Author.Tests.{eq-eqb, eqb-true}
 use Rattle.rules.specs.declared.Guard.{Guard}
 use Rattle.rules.specs.declared.Head.{Head}
 use Rattle.rules.specs.declared.Done.{Done}
-use Rattle.rules.specs.Limits.{mostGuards}
 use Rattle.rules.specs.Answers.{toldOf, poisons}
 use Rattle.rules.specs.Orders.{lending}
 use Rattle.rules.specs.Calls.{Outcome, outcomeOf, headWith, publishOf}

@@ -2,21 +2,17 @@
 use Prim.Native.Nat.{ℕ}
 use native.Mathlib.Omega.{arith}
 use mathlib.Core.Path.{_≡_, refl}
-use mathlib.Core.List.{List, [], _∷_}
-use mathlib.Core.Bool.{Bool, true, false}
-use lib.ListN.{length}
-use lib.Dec.{eqb, ltb, leb}
-use Rattle.strips.specs.Strips.{properStrip}
+use mathlib.Core.List.{List, []}
+use mathlib.Core.Bool.{Bool, true}
 use Rattle.rules.specs.declared.Head.{Head}
 use Rattle.rules.specs.declared.Answer.{Answer}
 use Rattle.rules.specs.declared.Verdict.{Verdict}
-use Rattle.rules.specs.Table.{capacity, wellFormed}
-use Rattle.rules.specs.Orders.{properLists, destinations, sources, Call, changesOf}
+use Rattle.rules.specs.Table.{capacity}
+use Rattle.rules.specs.Orders.{destinations, sources, Call, changesOf}
 use Rattle.rules.specs.Answers.{toldOf}
 use Rattle.rules.specs.Checks.{prepareChecks, rollbackChecks, removalChecks, publishChecks, countChecks}
 use Rattle.lent_lists.specs.Among.{among}
 use Rattle.rules.specs.Calls.{prepareOf, rollbackOf, removalOf, publishOf, countOf}
-use Rattle.booleans.proofs.Tests.{impossible}
 use Rattle.laws.proofs.Checks.{Says, prepare-says, rollback-says, removal-says, publish-says, count-says}
 use Rattle.laws.proofs.Outcomes.{recordedBack}
 use Rattle.history.specs.Acceptance.{Ends, RollbackEnds, RemovalEnds, Answered}

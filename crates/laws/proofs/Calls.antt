@@ -12,7 +12,7 @@ use Rattle.rules.specs.declared.Answer.{Answer}
 use Rattle.rules.specs.declared.Verdict.{Verdict}
 use Rattle.rules.specs.Table.{capacity, wellFormed}
 use Rattle.rules.specs.Answers.{isAccepted, poisons, settled}
-use Rattle.rules.specs.Checks.{prepareChecks, rollbackChecks, removalChecks, publishChecks, countChecks}
+use Rattle.rules.specs.Checks.{prepareChecks, rollbackChecks, removalChecks, publishChecks}
 use Rattle.rules.specs.Orders.{Call}
 use Rattle.rules.specs.Publication.{Stage, rolledBack, thenSources}
 use Rattle.rules.specs.Calls.{Outcome, asBefore, unlessRefused, headAfter, shown, prepared, prepareOf, rollbackOf, removalOf, publishOf, countOf}

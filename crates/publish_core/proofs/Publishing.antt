@@ -1,6 +1,6 @@
 -- The core after 1 to 5 and after what was found of the guards is publish, whichever form has found it.
 use Prim.Native.Nat.{ℕ}
-use mathlib.Core.Path.{_≡_, refl, sym, ap, _∙_}
+use mathlib.Core.Path.{_≡_, refl, ap, _∙_}
 use mathlib.Core.List.{List, [], _∷_}
 use mathlib.Core.Bool.{Bool, true}
 use Rattle.rules.specs.declared.Head.{Head}

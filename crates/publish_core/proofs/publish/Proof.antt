@@ -1,6 +1,5 @@
 -- 7 to 9 after the verdict before them; the refusal, or else the work.
-use mathlib.Core.Path.{sym, ap, _∙_}
-use Rattle.rules.specs.Calls.{Outcome}
+use mathlib.Core.Path.{sym, _∙_}
 use Rattle.laws.proofs.Checks.{passed}
 use Rattle.table.proofs.Keeping.{well-formed-ordered}
 use Rattle.refusals.proofs.Firsts.{joined}
