@@ -1,4 +1,6 @@
 // The numbers that an operator sees, and what follows from an answer alone. Nothing here has a `requires`.
+#![tactic(auto)]
+
 ghost use Rattle.std.specs.Prelude.{◌≡◌, cond};
 ghost use Rattle.rules.specs.Answers.{told_of, is_accepted, poisons, settled};
 

@@ -1,6 +1,8 @@
 // Runs the bucket calls on the cases that its input lists, and writes a line for each: the call and the case's name; then of
 // the two engines the answer, what it names and the whole output after it, and of the bitmap the whole scratch too; of the
 // stamp test yes or no. What the input may say, and how lists are written, stands in crate `case_text`.
+#![tactic(auto)]
+
 use bucket_rules::Answer;
 use case_text::{lists, reading, writing};
 

@@ -1,4 +1,6 @@
 // The checks of the bucket calls, in their order: the first that applies is given. An inner layer, not delivered.
+#![tactic(auto)]
+
 ghost use Rattle.std.specs.Prelude.{◌≡◌, ◌||◌};
 ghost use Rattle.bucket_rules.specs.Calls.{over_limits, short_output, short_scratch, range_check, checks};
 

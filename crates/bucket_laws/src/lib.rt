@@ -1,1 +1,2 @@
 // Theorems about the bucket rules. No code.
+#![tactic(auto)]

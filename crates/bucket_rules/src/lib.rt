@@ -1,8 +1,9 @@
 // The types that the bucket rules speak of. Code, contracts and definitions share them; the rules themselves are the definitions in
 // specs/, which a reader takes in this order: Buckets, Answers, Calls, Stamps, and then Examples, where they are tried.
+#![tactic(auto)]
 
 // The answers, a variant for each number that an operator sees (specs/Answers.antt gives number and named value).
-#[derive(Drop)]
+#[derive(Clone, Copy)]
 pub enum Answer {
     // 0, with the number of distinct elements.
     Accepted(u32),
@@ -16,14 +17,14 @@ pub enum Answer {
 
 // An answer as two numbers: the answer's own, and what it names.
 #[repr(C)]
-#[derive(Drop)]
+#[derive(Clone, Copy)]
 pub struct Told {
     pub answer: u32,
     pub named: u32,
 }
 
 // What the checks at entry find.
-#[derive(Drop)]
+#[derive(Clone, Copy)]
 pub enum Verdict {
     Passes,
     Refused(Answer),

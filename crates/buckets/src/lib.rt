@@ -1,6 +1,8 @@
 // The bucket calls: input, output and scratch lent, and the stamp test. Any numbers may come in: a call refuses by number and then
 // writes nothing, or does the work that the bucket rules say. Each promise says of all that is seen afterwards that it is what the
 // rules say.
+#![tactic(auto)]
+
 ghost use Rattle.std.specs.Prelude.{◌≡◌};
 ghost use Rattle.bucket_rules.specs.Answers.{told_of};
 ghost use Rattle.buckets.specs.Promises.{SortPromise, BitmapPromise, PrecedesPromise};

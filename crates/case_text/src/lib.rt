@@ -11,6 +11,8 @@
 // numbers, and the sum of the sums on the way, which depends on every number and its place.
 //
 // Each program says its own lists and the names of its calls, goes through the lines, and runs the cases.
+#![tactic(auto)]
+
 pub mod lists;
 pub mod reading;
 pub mod writing;

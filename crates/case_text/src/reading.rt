@@ -5,7 +5,7 @@ use crate::{lists, writing};
 
 // A number that stands in the text, and the place after it. The value is above the largest u32 where no number stands
 // there, or none that fits.
-#[derive(Drop)]
+#[derive(Clone, Copy)]
 struct Read {
     value: u64,
     next: usize,
@@ -13,7 +13,7 @@ struct Read {
 
 // An item of a list's line: the group of numbers between two places of the text, how often it is said, and the place
 // after the item. The times are above the largest u32 where the item is malformed.
-#[derive(Drop)]
+#[derive(Clone, Copy)]
 struct Item {
     times: u64,
     from: usize,

@@ -50,7 +50,7 @@ fn write_runs(numbers: &[u32]) {
 
 // The sum of a list's numbers, and the sum of the sums on the way. The lists of these programs are too short for either to
 // wrap, which nothing proves: they wrap all the same if ever one isn't.
-#[derive(Drop)]
+#[derive(Clone, Copy)]
 struct Sums {
     sum: u64,
     sums: u64,

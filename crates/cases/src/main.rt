@@ -1,6 +1,8 @@
 // Runs the posting calls on the cases that its input lists, and writes a line for each: the call and the case's name, the
 // answer and what it names, and but for a count the head (bindings, used, poison flag) and the table after it; for prepare
 // and publish the record list too. What the input may say, and how lists are written, stands in crate `case_text`.
+#![tactic(auto)]
+
 use case_text::{lists, reading, writing};
 use rules::{Done, Head};
 

@@ -1,5 +1,7 @@
 // A lent change list, read change by change: six numbers to each. An inner layer, not delivered: `change_at` asks for a change
 // that is there.
+#![tactic(auto)]
+
 ghost use Rattle.std.specs.Prelude.{◌<◌, ◌≡◌, length, get_or};
 ghost use Rattle.rules.specs.Orders.{key_of, changes, destination_of, source_of, no_change};
 

@@ -1,6 +1,8 @@
 // The walks over what an order lends: change list, guards and record; answers 3, 6 and 14. Each looks at its whole list before the
 // next begins. An inner layer, not delivered: the walks that name a change ask for a list within its limit, which answer 3 has
 // tested, so that a change number fits a u32.
+#![tactic(auto)]
+
 ghost use Rattle.std.specs.Prelude.{◌+◌, ◌<◌, ◌≤◌, ◌≡◌, not, ◌&&◌, length, take, eqb, ltb};
 ghost use Rattle.rules.specs.declared.Answer.{Answer};
 ghost use Rattle.rules.specs.Limits.{most_changes};

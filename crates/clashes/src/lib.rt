@@ -1,6 +1,8 @@
 // Whether the postings that an order names clash: two equal destinations, a destination that stands in the table, a source that is
 // a destination; answers 7, 8 and 9. Each looks at the whole list before the next begins. An inner layer, not delivered: the walks
 // ask for a list within its limit, which answer 3 has tested, so that a change number fits a u32.
+#![tactic(auto)]
+
 ghost use Rattle.std.specs.Prelude.{◌<◌, ◌≤◌, ◌≡◌, [], not, length, get_or};
 ghost use Rattle.rules.specs.declared.Answer.{Answer};
 ghost use Rattle.rules.specs.Limits.{most_changes};

@@ -2,6 +2,8 @@
 // by-value core that `publish` calls too, which knows no list of guards; what they promise is said of its flat numbers.
 // Any numbers may come in. The prover does not walk code over a reference to a struct, so `poison_indexes`, `held`, `key_held`,
 // `first_unheld` and `publish` are proved by hand; whatever decides anything is in `guarding`, in small functions over plain values.
+#![tactic(auto)]
+
 ghost use Rattle.std.specs.Prelude.{◌≡◌};
 ghost use Rattle.guarding.specs.Asking.{wanted_held, unheld_place};
 ghost use Rattle.entry.specs.Promises.{PoisonPromise, HeldPromise, EntryPromise};

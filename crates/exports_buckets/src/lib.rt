@@ -1,6 +1,8 @@
 // The bucket calls and the stamp test, as C and Rust call them: each under a plain name, over numbers and lent lists. No enum
 // crosses. Any numbers may come in. Each promise is that of the call behind it, spoken of the numbers that cross.
 // `include/asdrifen.h` tells a C user the same.
+#![tactic(auto)]
+
 ghost use Rattle.std.specs.Prelude.{◌≡◌};
 ghost use Rattle.bucket_rules.specs.Answers.{told_of};
 ghost use Rattle.exports_buckets.specs.Promises.{three_numbers, SortPromise, BitmapPromise, PrecedesPromise};

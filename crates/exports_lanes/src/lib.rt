@@ -1,6 +1,8 @@
 // The lane calls, as C and Rust call them: each under a plain name, over numbers, lent lists and structs by value. No enum crosses.
 // Any numbers may come in. Each promise is that of the call behind it, spoken of the numbers that cross. `include/asdrifen.h` tells
 // a C user the same.
+#![tactic(auto)]
+
 ghost use Rattle.std.specs.Prelude.{◌≡◌};
 ghost use Rattle.lanes.specs.Promises.{seen};
 ghost use Rattle.exports_lanes.specs.Promises.{lane_seen, CachedPromise, RefreshedPromise, DetachPromise};
@@ -9,7 +11,7 @@ use lane_rules::View;
 
 // The view that a lane call leaves, the number of its answer, and the value beside it.
 #[repr(C)]
-#[derive(Drop)]
+#[derive(Clone, Copy)]
 pub struct Detached {
     pub view: View,
     pub answer: u32,

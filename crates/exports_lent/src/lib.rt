@@ -1,6 +1,8 @@
 // The lent forms, as C and Rust call them: the head is lent and set in place, and the held guards are a list of guards. No enum
 // crosses. Any numbers may come in. Each promise is that of the call behind it, spoken of the numbers that cross.
 // `include/asdrifen.h` tells a C user the same.
+#![tactic(auto)]
+
 ghost use Rattle.entry.specs.Promises.{PoisonPromise};
 ghost use Rattle.exports_lent.specs.Promises.{LentPublishPromise, HeldPromise};
 

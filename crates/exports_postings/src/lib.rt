@@ -1,6 +1,8 @@
 // The posting calls with the head by value, as C and Rust call them: each under a plain name, over numbers, lent lists and structs
 // by value. No enum crosses. Any numbers may come in. Each promise is that of the call behind it, spoken of the numbers that cross.
 // `include/asdrifen.h` tells a C user the same.
+#![tactic(auto)]
+
 ghost use Rattle.std.specs.Prelude.{◌≡◌, []};
 ghost use Rattle.rules.specs.Answers.{told_of};
 ghost use Rattle.rules.specs.Orders.{lending};
@@ -10,7 +12,7 @@ use rules::{Head, Told};
 
 // What a posting call tells, and the head that it leaves.
 #[repr(C)]
-#[derive(Drop)]
+#[derive(Clone, Copy)]
 pub struct Done {
     pub head: Head,
     pub told: Told,

@@ -1,5 +1,7 @@
 // What the lent forms decide, over plain values: which keys an order asks the guards for, whether a guard is the one asked for, and
 // the by-value call. An inner layer, not delivered.
+#![tactic(auto)]
+
 ghost use Rattle.std.specs.Prelude.{◌*◌, ◌<◌, ◌≡◌, ◌&&◌, length, eqb};
 ghost use Rattle.rules.specs.Orders.{changes};
 ghost use Rattle.guarding.specs.Asking.{wanted_of, wanted_at, keys_asked};
@@ -10,7 +12,7 @@ use checks::{MOST_CHANGES, MOST_GUARDS};
 use rules::{Answer, Guard, Head, Key};
 
 // A key that a change names, or none.
-#[derive(Drop)]
+#[derive(Clone, Copy)]
 pub struct Wanted {
     pub named: bool,
     pub binding: u32,
@@ -18,7 +20,7 @@ pub struct Wanted {
 }
 
 // What a publish answers, the head that it leaves but for the poison flag, which is as it was lent, and whether that is to be set.
-#[derive(Drop)]
+#[derive(Clone, Copy)]
 pub struct Published {
     pub answer: Answer,
     pub head: Head,

@@ -1,6 +1,8 @@
 // Runs the lane calls on the cases that its input lists, and writes a line for each: the call and the case's name, the answer
 // and its value, and the view after it (height, guarded flag, retired flag, attached lanes, window). What the input may say
 // stands in crate `case_text`.
+#![tactic(auto)]
+
 use case_text::{lists, reading, writing};
 use lane_rules::{Done, View};
 

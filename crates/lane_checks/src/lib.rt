@@ -1,4 +1,6 @@
 // The checks of the lane calls at entry, in their order: the first that applies is given. An inner layer, not delivered.
+#![tactic(auto)]
+
 ghost use Rattle.std.specs.Prelude.{◌≡◌};
 ghost use Rattle.lane_rules.specs.Calls.{bad_height, bad_view, entry_checks, refreshed_checks};
 

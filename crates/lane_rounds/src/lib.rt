@@ -1,5 +1,7 @@
 // Refresh, one round of a refresh and a refreshed pass, and the rounds of a detach, as storage behaves by the strip. An inner layer,
 // not delivered: what counts the bytes read asks that the count has room to grow by one for each step.
+#![tactic(auto)]
+
 ghost use Rattle.std.specs.Prelude.{◌+◌, ◌^◌, ◌≤◌, ◌<◌, ◌≡◌};
 ghost use Rattle.masks.specs.Masks.{most_lanes};
 ghost use Rattle.lane_rules.specs.Steps.{refreshed};

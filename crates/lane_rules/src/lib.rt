@@ -1,10 +1,11 @@
 // The types that the lane rules speak of. Code, contracts and definitions share them; the rules themselves are the definitions in
 // specs/, which a reader takes in this order: Steps, Passes, Rounds, Answers, Calls, and then Examples, where they are tried.
+#![tactic(auto)]
 
 // One node as its lanes are being detached. The numbers come from outside, so the two flags are numbers too: 0, or 1 where they
 // are set. Attached and window are masks of 32 lanes: lane l is bit l.
 #[repr(C)]
-#[derive(Drop)]
+#[derive(Clone, Copy)]
 pub struct View {
     // how many lanes the node has
     pub height: u32,
@@ -18,7 +19,7 @@ pub struct View {
 }
 
 // What a compare or a pass says. An error ends the call.
-#[derive(Drop)]
+#[derive(Clone, Copy)]
 pub enum Said {
     Yes,
     No,
@@ -26,14 +27,14 @@ pub enum Said {
 }
 
 // What a compare says, and the attached lanes that it leaves.
-#[derive(Drop)]
+#[derive(Clone, Copy)]
 pub struct Compared {
     pub said: Said,
     pub attached: u32,
 }
 
 // Whether a refresh failed, and the attached lanes and the window that it leaves.
-#[derive(Drop)]
+#[derive(Clone, Copy)]
 pub struct Refreshed {
     pub failed: bool,
     pub attached: u32,
@@ -41,7 +42,7 @@ pub struct Refreshed {
 }
 
 // What a pass says, the attached lanes that it leaves, and how many bytes of the strip are then read.
-#[derive(Drop)]
+#[derive(Clone, Copy)]
 pub struct Pass {
     pub said: Said,
     pub attached: u32,
@@ -49,7 +50,7 @@ pub struct Pass {
 }
 
 // What a round says, the two masks that it leaves, and how many bytes of the strip are then read.
-#[derive(Drop)]
+#[derive(Clone, Copy)]
 pub struct Round {
     pub said: Said,
     pub attached: u32,
@@ -59,7 +60,7 @@ pub struct Round {
 
 // How a detach ended: the answer with the rounds made, the two masks that it leaves, and how many bytes of the strip are then
 // read.
-#[derive(Drop)]
+#[derive(Clone, Copy)]
 pub struct Ended {
     pub answer: Answer,
     pub attached: u32,
@@ -68,7 +69,7 @@ pub struct Ended {
 }
 
 // The answers, a variant for each number that an operator sees (specs/Answers.antt gives number and value).
-#[derive(Drop)]
+#[derive(Clone, Copy)]
 pub enum Answer {
     // 0. Of a pass: 1 where it says yes, 0 where it says no. Of a detach, which has retired the node: the rounds made.
     Accepted(u32),
@@ -88,21 +89,21 @@ pub enum Answer {
 
 // An answer as two numbers: the answer's own, and its value.
 #[repr(C)]
-#[derive(Drop)]
+#[derive(Clone, Copy)]
 pub struct Told {
     pub answer: u32,
     pub value: u32,
 }
 
 // What the checks at entry find.
-#[derive(Drop)]
+#[derive(Clone, Copy)]
 pub enum Verdict {
     Passes,
     Refused(Answer),
 }
 
 // What a call answers, and the view that it leaves. The view goes by value: the next call on this node takes this one.
-#[derive(Drop)]
+#[derive(Clone, Copy)]
 pub struct Done {
     pub view: View,
     pub answer: Answer,

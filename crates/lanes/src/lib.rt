@@ -1,6 +1,8 @@
 // The lane calls: the view by value, the pinned contents and the strip lent for reading. Any numbers may come in: a call refuses by
 // number and then changes nothing, or does the work that the lane rules say. Each promise says of all that is seen afterwards that
 // it is what the rules say. No call can write the contents, which readers may hold pinned.
+#![tactic(auto)]
+
 ghost use Rattle.std.specs.Prelude.{◌≡◌, cond};
 ghost use Rattle.lane_rules.specs.declared.Answer.{Answer};
 ghost use Rattle.lane_rules.specs.Answers.{told_of, is_accepted};

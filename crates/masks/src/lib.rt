@@ -1,5 +1,7 @@
 // Sets of 32 lanes as one number, by shift and mask: lane l is in the mask where its bit l is 1. Nothing here has a `requires`:
 // a lane of 32 or more is in no mask, and no lane stands at or above a height of 32.
+#![tactic(auto)]
+
 ghost use Rattle.std.specs.Prelude.{◌≡◌};
 ghost use Rattle.masks.specs.Masks.{lane_in, cleared, entered, lanes_below, within, lowest, lowest_cleared};
 

@@ -1,5 +1,7 @@
 // Runs the fourteen lettered orders, each from the same start, and writes a line for each: its letter, its answer,
 // how many postings stand in the table after it, and the poison flag.
+#![tactic(auto)]
+
 use rules::Head;
 
 // Writes a space and a number.

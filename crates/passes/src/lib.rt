@@ -1,5 +1,7 @@
 // Compare and the two passes, step by step, as storage behaves by the strip. An inner layer, not delivered: what counts the bytes
 // read asks that the count has room to grow by one for each step.
+#![tactic(auto)]
+
 ghost use Rattle.std.specs.Prelude.{◌+◌, ◌^◌, ◌<◌, ◌≡◌, true, false};
 ghost use Rattle.lane_rules.specs.declared.Said.{Said};
 ghost use Rattle.lane_rules.specs.Steps.{compared};

@@ -1,6 +1,8 @@
 // The posting calls: head by value, guards as flat numbers, every list lent. Any numbers may come in: a call refuses by number
 // and then changes nothing, or does the work that the rules say. Each promise says of all that is seen afterwards that it is what
 // the rules say.
+#![tactic(auto)]
+
 ghost use Rattle.std.specs.Prelude.{[]};
 ghost use Rattle.rules.specs.Orders.{lending};
 ghost use Rattle.publish.specs.Promises.{PreparePromise, RollbackPromise, RemovalPromise, PublishPromise, CountPromise};

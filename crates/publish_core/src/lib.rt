@@ -1,6 +1,8 @@
 // Publish by value, once its order has been checked and its guards looked at. Both forms of publish, that with flat numbers of
 // guards and that with a list of guards, go this one way. An inner layer, not delivered: what a verdict that passes has shown is
 // asked for here and not tested again.
+#![tactic(auto)]
+
 ghost use Rattle.std.specs.Prelude.{◌≡◌};
 ghost use Rattle.rules.specs.declared.Verdict.{Verdict};
 ghost use Rattle.rules.specs.Calls.{outcome_of};

@@ -1,6 +1,8 @@
 // The checks of the posting calls, in groups. A group is asked after the verdict of those before it, and hands a refusal on; so
 // the checks of a call are a straight run of groups, and the first that applies is given. An inner layer, not delivered: a group
 // that names a change asks for a list within its limit, which answer 3 has tested where the verdict before it passes.
+#![tactic(auto)]
+
 ghost use Rattle.std.specs.Prelude.{◌≤◌, ◌≡◌, [], ◌∷◌, length};
 ghost use Rattle.rules.specs.declared.Answer.{Answer};
 ghost use Rattle.rules.specs.declared.Verdict.{Verdict};

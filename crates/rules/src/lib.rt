@@ -1,9 +1,10 @@
 // The types that the posting rules speak of. Code, contracts and definitions share them; the rules themselves are the
 // definitions in specs/, which a reader takes in this order: Limits, Postings, Table, Orders, Storage, Answers, Publication,
 // Checks, Calls, and then Letters and Examples, where they are tried.
+#![tactic(auto)]
 
 // A row that stands in the index `binding` under `key`.
-#[derive(Drop)]
+#[derive(Clone, Copy)]
 pub struct Posting {
     pub binding: u32,
     pub key: u32,
@@ -11,7 +12,7 @@ pub struct Posting {
 }
 
 // How one posting stands to another in the table's order.
-#[derive(Drop)]
+#[derive(Clone, Copy)]
 pub enum Order {
     Before,
     Same,
@@ -19,14 +20,14 @@ pub enum Order {
 }
 
 // The key that a change takes a row from or brings it to, or none.
-#[derive(Drop)]
+#[derive(Clone, Copy)]
 pub enum Key {
     Missing,
     Named(u32),
 }
 
 // One change of an order: the row leaves its key before and comes to its key after.
-#[derive(Drop)]
+#[derive(Clone, Copy)]
 pub struct Change {
     pub binding: u32,
     pub row: u32,
@@ -36,7 +37,7 @@ pub struct Change {
 
 // A held guard: whoever publishes holds this key of this index.
 #[repr(C)]
-#[derive(Drop)]
+#[derive(Clone, Copy)]
 pub struct Guard {
     pub binding: u32,
     pub key: u32,
@@ -44,7 +45,7 @@ pub struct Guard {
 
 // What stands beside the table. The numbers come from outside, so the poison flag is a number too: 0, or 1 where it is set.
 #[repr(C)]
-#[derive(Drop)]
+#[derive(Clone, Copy)]
 pub struct Head {
     pub bindings: u32,
     pub used: u32,
@@ -52,7 +53,7 @@ pub struct Head {
 }
 
 // What a storage insertion met.
-#[derive(Drop)]
+#[derive(Clone, Copy)]
 pub enum Fault {
     Nothing,
     Store,
@@ -60,7 +61,7 @@ pub enum Fault {
 }
 
 // The answers, a variant for each number that an operator sees (specs/Answers.antt gives number and named values).
-#[derive(Drop)]
+#[derive(Clone, Copy)]
 pub enum Answer {
     // 0, with what the call names: the length of its record, a count, or 0.
     Accepted(u32),
@@ -96,7 +97,7 @@ pub enum Answer {
 
 // An answer as three numbers: the answer's own, what it names, and the second change of answer 7 (else 0).
 #[repr(C)]
-#[derive(Drop)]
+#[derive(Clone, Copy)]
 pub struct Told {
     pub answer: u32,
     pub named: u32,
@@ -104,7 +105,7 @@ pub struct Told {
 }
 
 // What a check finds. Of a run of undo removals: whether one failed, and with which change the last one did.
-#[derive(Drop)]
+#[derive(Clone, Copy)]
 pub enum Verdict {
     Passes,
     Refused(Answer),
@@ -112,7 +113,7 @@ pub enum Verdict {
 
 // What a call answers, and the head that it leaves. The head goes by value: the next call on this table must be given this one,
 // or a poison flag that 12 or 13 set is lost.
-#[derive(Drop)]
+#[derive(Clone, Copy)]
 pub struct Done {
     pub head: Head,
     pub answer: Answer,

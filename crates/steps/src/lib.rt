@@ -1,6 +1,8 @@
 // Prepare, step by step, as storage behaves by the strip. `steps_undo` takes back what it inserted, and `steps_sources` has what
 // follows the last insertion. An inner layer, not delivered: it asks for a table in order (Ordered) and a change list within its
 // limit, which the checks of a whole call have tested.
+#![tactic(auto)]
+
 ghost use Rattle.std.specs.Prelude.{◌+◌, ◌*◌, ◌≤◌, ◌≡◌, [], length};
 ghost use Rattle.rules.specs.declared.Verdict.{Verdict};
 ghost use Rattle.rules.specs.Limits.{most_changes};
@@ -18,7 +20,7 @@ use storage::insert_by;
 use strips::byte_at;
 
 // What a part of a call leaves: its answer, the used, the bytes read.
-#[derive(Drop)]
+#[derive(Clone, Copy)]
 pub struct Reached {
     pub answer: Answer,
     pub used: usize,

@@ -1,6 +1,8 @@
 // What follows the last insertion: the record is written, and the sources are removed, step by step, as storage behaves by the
 // strip. A part of the steps. An inner layer, not delivered: it asks for a table in order (Ordered) and a change list within its
 // limit, which the checks of a whole call have tested.
+#![tactic(auto)]
+
 ghost use Rattle.std.specs.Prelude.{◌+◌, ◌*◌, ◌≤◌, ◌≡◌, length};
 ghost use Rattle.lent_lists.specs.Written.{written};
 ghost use Rattle.rules.specs.Limits.{most_changes};

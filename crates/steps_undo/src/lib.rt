@@ -1,6 +1,8 @@
 // The undo of insertions, as storage behaves by the strip: of one change, of the changes below one, of the changes of a record,
 // which is rollback. A part of the steps. An inner layer, not delivered: it asks for a table in order (Ordered) and a change list
 // within its limit, which the checks of a whole call have tested.
+#![tactic(auto)]
+
 ghost use Rattle.std.specs.Prelude.{◌+◌, ◌^◌, ◌<◌, ◌≤◌, ◌≡◌, true, reverse, length, get_or, ltb};
 ghost use Rattle.rules.specs.declared.Verdict.{Verdict};
 ghost use Rattle.rules.specs.Limits.{most_changes};
@@ -17,7 +19,7 @@ use storage::remove_by;
 use strips::byte_at;
 
 // What a run of undo removals leaves: refused with the last change whose removal failed, the used, the bytes read.
-#[derive(Drop)]
+#[derive(Clone, Copy)]
 pub struct Back {
     pub verdict: Verdict,
     pub used: usize,

@@ -1,5 +1,7 @@
 // How storage behaves, by the next byte of the strip: one insertion, one removal. An inner layer, not delivered: a step asks for a
 // table in order (Ordered), which the checks of a whole call have tested.
+#![tactic(auto)]
+
 ghost use Rattle.std.specs.Prelude.{◌<◌, true};
 ghost use Rattle.rules.specs.Table.{capacity, postings};
 ghost use Rattle.rules.specs.Storage.{insertion, removal};
@@ -9,14 +11,14 @@ ghost use Rattle.storage.specs.Leaving.{InsertionIn, RemovalIn};
 use rules::{Fault, Posting};
 
 // What an insertion met, and the new used.
-#[derive(Drop)]
+#[derive(Clone, Copy)]
 pub struct Inserted {
     pub fault: Fault,
     pub used: usize,
 }
 
 // Whether a removal failed, and the new used.
-#[derive(Drop)]
+#[derive(Clone, Copy)]
 pub struct Removed {
     pub failed: bool,
     pub used: usize,

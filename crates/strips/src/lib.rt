@@ -1,5 +1,7 @@
 // A strip says how storage behaves, a byte to each step. Posting calls and lane calls lend one alike. Nothing here has a
 // `requires`.
+#![tactic(auto)]
+
 ghost use Rattle.std.specs.Prelude.{◌≡◌};
 ghost use Rattle.strips.specs.Strips.{proper_strip, byte_at};
 

@@ -1,6 +1,8 @@
 // The posting table over a lent list of numbers, three to a posting: find, insertion, removal, count. An inner layer, not
 // delivered: `find`, `stands`, `insert` and `remove` ask for a table in order (Ordered), which `table_checks` has tested once for a
 // whole call.
+#![tactic(auto)]
+
 ghost use Rattle.std.specs.Prelude.{◌*◌, ◌+◌, ◌<◌, ◌≤◌, ◌≡◌, cond, ◌&&◌, length, eqb};
 ghost use Rattle.lent_lists.specs.Raised.{raised};
 ghost use Rattle.rules.specs.Postings.{present, inserted, removed, counted};
@@ -12,7 +14,7 @@ use rules::{Order, Posting};
 use table_postings::{compare, read, write};
 
 // Where a posting stands: at a place, or in the gap before one.
-#[derive(Drop)]
+#[derive(Clone, Copy)]
 pub enum Place {
     At(usize),
     Gap(usize),

@@ -1,5 +1,7 @@
 // Whether a head and a table are well formed, which answer 1 tells. A part of the posting table. `well_formed` is asked once for a
 // whole call, and asks nothing itself: any numbers may come in.
+#![tactic(auto)]
+
 ghost use Rattle.std.specs.Prelude.{◌*◌, ◌≤◌, ◌≡◌, true, length, drop, eqb};
 ghost use Rattle.rules.specs.Postings.{every, ascending, binding_below};
 ghost use Rattle.rules.specs.Table.{postings, well_formed};

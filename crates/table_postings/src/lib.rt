@@ -1,5 +1,7 @@
 // One posting of the posting table: compared with another, read at a place, written there. A part of the table: `table` moves
 // postings by it, `table_checks` tests them. An inner layer, not delivered: `read` and `write` ask for a place that is there.
+#![tactic(auto)]
+
 ghost use Rattle.std.specs.Prelude.{◌*◌, ◌+◌, ◌≤◌, ◌≡◌, length, get_or};
 ghost use Rattle.rules.specs.Postings.{ranked, compared, is_before, same};
 ghost use Rattle.rules.specs.Table.{cells};

@@ -1,5 +1,7 @@
 // The work of each posting call whose checks have passed. An inner layer, not delivered: what the checks have shown is asked for
 // here and not tested again.
+#![tactic(auto)]
+
 ghost use Rattle.std.specs.Prelude.{◌≤◌, ◌<◌, ◌^◌, ◌≡◌, [], true, cond, length, ltb};
 ghost use Rattle.rules.specs.declared.Answer.{Answer};
 ghost use Rattle.rules.specs.Limits.{most_changes};

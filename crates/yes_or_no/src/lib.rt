@@ -1,4 +1,6 @@
 // A yes or no as the number that crosses to C and Rust.
+#![tactic(auto)]
+
 ghost use Rattle.std.specs.Prelude.{◌≡◌, cond};
 
 // 1 for yes, 0 for no.
