@@ -1,0 +1,13 @@
+-- A refusal is handed on, else the check is asked.
+use mathlib.Core.Path.{refl}
+use Rattle.refusals.proofs.Firsts.{ends, goes_on}
+use Rattle.refusals.proofs.binding.Goals as goal
+
+pub returns-in_default : goal.returns-in_default
+returns-in_default c = ends _ refl c.in_default.is
+
+pub check_bindings-requires : goal.check_bindings-requires
+check_bindings-requires c = c.requires c.in-Passes.is
+
+pub returns : goal.returns
+returns c = goes_on refl c.in-Passes.is c.check_bindings.ensures

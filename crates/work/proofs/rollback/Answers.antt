@@ -1,0 +1,39 @@
+-- What the undo reached, settled and shown.
+use mathlib.Core.Path.{ap, ◌∙◌}
+use Rattle.rules.specs.Calls.{Outcome, outcome_of}
+use Rattle.rules.specs.declared.Answer.{Answer}
+use Rattle.table.proofs.Keeping.{well_formed_ordered}
+use Rattle.rules.specs.declared.Done.{Done}
+use Rattle.work.proofs.Showing.{done_of, used_fits, undone_shown}
+use Rattle.work.proofs.rollback.Goals as goal
+
+pub rollback-back-requires : goal.rollback-back-requires
+rollback-back-requires c = (
+  (well_formed_ordered _ _ c.requires.table_value, c.requires.list_len_bound),
+  c.requires.record_value,
+)
+
+pub done-requires : goal.done-requires
+done-requires c =
+    used_fits _ _ _ _ _ c.requires.table_value
+    c.rollback-back.auto.0 c.rollback-back.ensures.carries
+
+pub returns : goal.returns
+returns c =
+    let answered : Answer → Outcome =
+    λ a. outcome_of
+    (done_of c.args.head
+    (record
+    { answer = a; used = c.rollback-back.result.used; read = c.rollback-back.result.read }))
+    c.rollback-back.new.0
+    c.args.record.now in
+    ap
+    (λ (r : Done). outcome_of r c.rollback-back.new.0
+    c.args.record.now)
+    c.done.ensures
+    ∙
+    (ap answered c.settle.ensures ∙ undone_shown
+    c.args.head
+    c.args.table.now _
+    c.args.record.now
+    c.rollback-back.auto.0 _ _ _ c.rollback-back.ensures)
