@@ -4,7 +4,7 @@ use native.Mathlib.Nat.{zero-add}
 use native.Mathlib.Omega.{arith}
 use mathlib.Core.Path.{◌≡◌, refl, sym, ap, ◌∙◌}
 use mathlib.Core.List.{List, [], ◌∷◌, ◌++◌}
-use mathlib.Core.Bool.{Bool, true, false, not, ◌&&◌, ◌||◌, or_true}
+use mathlib.Core.Bool.{Bool, true, false, not, ◌&&◌, ◌||◌, or-true}
 use mathlib.Core.Logic.{◌⊎◌, inl, inr}
 use mathlib.Mathlib.Data.Bool.Basic.{and_elim_left, and_elim_right}
 use lib.ListN.{length, get_or, length-append, get_or-append}
@@ -347,7 +347,7 @@ pub at_held :
 unfolding held
 at_held binding key [] i l b k = absurd (omega arith)
 at_held binding key (g ∷ gs) zero l b k = rw (eq-eqb binding g.binding (sym b), eq-eqb key g.key (sym k))
-at_held binding key (g ∷ gs) (suc i) l b k = rw (at_held binding key gs i (omega arith) b k) (or_true (eqb binding g.binding && eqb key g.key))
+at_held binding key (g ∷ gs) (suc i) l b k = rw (at_held binding key gs i (omega arith) b k) (or-true (eqb binding g.binding && eqb key g.key))
 
 -- of a list of checks the first that refuses gives the answer
 pub refused_at : (vs : List Verdict) (a : Answer) → first_refusal vs ≡ Verdict.Refused a → RefusedAt vs a

@@ -2,9 +2,9 @@
 use Prim.Native.Nat.{ℕ, zero, suc, ◌+◌, ◌≤◌, ◌<◌}
 use native.Mathlib.Nat.{zero-add}
 use native.Mathlib.Omega.{arith}
-use mathlib.Core.Path.{◌≡◌, refl, sym, ap, ◌∙◌}
+use mathlib.Core.Path.{◌≡◌, refl, sym, ap, subst, ◌∙◌}
 use mathlib.Core.List.{List, [], ◌∷◌, reverse_aux, reverse}
-use mathlib.Core.Bool.{true, false, ◌||◌, or_true, or_false, or_assoc}
+use mathlib.Core.Bool.{true, false, ◌||◌, or-true, or-false, or_assoc}
 use mathlib.Mathlib.Data.Bool.Basic.{and_elim_left, and_elim_right, and_intro}
 use lib.ListN.{length, get_or}
 use lib.Dec.{eqb, leb, leb-suc-suc}
@@ -130,7 +130,8 @@ among_from i (c ∷ cs) (suc j) = go (destination_of c) (among_from (i + 1) cs j
     go (Key.Named key) ih =
         let e : i + suc j ≡ i + 1 + j = omega arith in
         let n : eqb (i + 1 + j) i ≡ false = ne_eqb (i + 1 + j) i (λ k. omega arith) in
-        rw (e, n) ih
+        let there = change_numbers (named i c (Key.Named key) (destinations_from (i + 1) cs)) in
+        subst (λ (m : ℕ). among m there ≡ recordable cs j) (sym e) (rw n ih)
 
 pub among_numbers : (cs : List Change) (j : ℕ) → among j (change_numbers (destinations cs)) ≡ recordable cs j
 among_numbers cs j = ap (λ n. among n (change_numbers (destinations cs))) (sym (zero-add j)) ∙ among_from 0 cs j
@@ -145,7 +146,7 @@ recordable_numbers cs [] f place low earlier g r = refl
 recordable_numbers cs (n ∷ ns) f place low earlier g r =
     let k = leb-true low n (and_elim_left (leb low n) (rising (n + 1) ns) r) in
     rw (f n (rw (eq-eqb n n refl)), g n k)
-    (recordable_numbers cs ns (λ m h. f m (rw h (or_true (eqb m n)))) (place + 1) (n + 1) (n ∷ earlier)
+    (recordable_numbers cs ns (λ m h. f m (rw h (or-true (eqb m n)))) (place + 1) (n + 1) (n ∷ earlier)
     (λ m h. neither (eqb m n) (among m earlier) (ne_eqb m n (λ e. omega arith)) (g m (omega arith)))
     (and_elim_right (leb low n) (rising (n + 1) ns) r))
 
@@ -176,4 +177,4 @@ present_reverse_onto p (d ∷ ds) done =
 
 pub present_reverse : (p : Posting) (ds : List Numbered) → present p (postings_of (reverse ds)) ≡ present p (postings_of ds)
 unfolding present
-present_reverse p ds = present_reverse_onto p ds [] ∙ or_false (present p (postings_of ds))
+present_reverse p ds = present_reverse_onto p ds [] ∙ or-false (present p (postings_of ds))

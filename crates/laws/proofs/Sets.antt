@@ -1,7 +1,7 @@
 -- Destinations added and sources taken away, as sets and as ascending lists.
 use mathlib.Core.Path.{◌≡◌, refl, sym, ap, ◌∙◌}
 use mathlib.Core.List.{List, [], ◌∷◌}
-use mathlib.Core.Bool.{Bool, true, false, not, ◌&&◌, ◌||◌, or_false, or_assoc, and-true}
+use mathlib.Core.Bool.{Bool, true, false, not, ◌&&◌, ◌||◌, or-false, or_assoc, and-true}
 use Rattle.rules.specs.declared.Posting.{Posting}
 use Rattle.rules.specs.Postings.{same, ascending, present, inserted, removed}
 use Rattle.rules.specs.Orders.{Numbered, postings_of}
@@ -14,7 +14,7 @@ pub present_added :
     (p : Posting) (ds : List Numbered) (ps : List Posting) →
     present p (added ds ps) ≡ (present p ps || present p (postings_of ds))
 unfolding added present
-present_added p [] ps = sym (or_false (present p ps))
+present_added p [] ps = sym (or-false (present p ps))
 present_added p (d ∷ ds) ps =
     let here : Bool = same p d.posting in
     let later : Bool = present p (postings_of ds) in

@@ -4,7 +4,7 @@ use Prim.Native.Nat.{ℕ, suc, ◌+◌, ◌≤◌, ◌<◌}
 use native.Mathlib.Omega.{arith}
 use mathlib.Core.Path.{◌≡◌, refl}
 use mathlib.Core.List.{List, [], ◌∷◌}
-use mathlib.Core.Bool.{Bool, true, false, or_true}
+use mathlib.Core.Bool.{Bool, true, false, or-true}
 use mathlib.Core.Logic.{◌⊎◌, inl, inr, ⊎_elim}
 use lib.ListN.{length}
 use lib.Dec.{eqb}
@@ -170,6 +170,6 @@ unfolding present
 put_other base [] ps e p h = (rw e h, refl)
 put_other base (d ∷ ds) ps w p h =
     let r = put_other base ds w.0 w.3 p h in (
-      rw (w.1, present_inserted p d.posting w.0, r.0) (or_true (same p d.posting)),
+      rw (w.1, present_inserted p d.posting w.0, r.0) (or-true (same p d.posting)),
       neither (same p d.posting) (present p (postings_of ds)) (differs p d.posting w.0 r.0 w.2) r.1,
     )

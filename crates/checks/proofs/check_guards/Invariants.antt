@@ -10,8 +10,8 @@ use Rattle.checks.proofs.check_guards.Given as goal
 abbrev pub invariant-loop-i : goal.invariant-loop-i
 invariant-loop-i l =
     (l.i ≤ l.n) ×
-    (first_failing (guarded l.bindings (guards l.pairs)) (λ l.i change. Answer.Guard l.i) 0 (changes l.list) ≡ first_failing
-    (guarded l.bindings (guards l.pairs)) (λ l.i change. Answer.Guard l.i) l.i (drop l.i (changes l.list)))
+    (first_failing (guarded l.bindings (guards l.pairs)) (λ i change. Answer.Guard i) 0 (changes l.list) ≡ first_failing
+    (guarded l.bindings (guards l.pairs)) (λ i change. Answer.Guard i) l.i (drop l.i (changes l.list)))
 
 abbrev pub decreases-loop-i : goal.decreases-loop-i
 decreases-loop-i l = l.n - l.i

@@ -16,10 +16,10 @@ pub returns-then-not-proper_strip : goal.returns-then-not-proper_strip
 returns-then-not-proper_strip c =
     let height = sym c.bad_height.ensures ∙ c.if-bad_height.false in
     let view = sym c.bad_view.ensures ∙ c.if-bad_view.false in
-    detach_strip _ _ height view (sym c.proper_strip.ensures ∙ not-true _ c.if-not-proper_strip.true)
+    detach_strip _ _ height view (sym c.proper_strip.ensures ∙ c.if-not-proper_strip.true)
 
 pub returns : goal.returns
 returns c =
     let height = sym c.bad_height.ensures ∙ c.if-bad_height.false in
     let view = sym c.bad_view.ensures ∙ c.if-bad_view.false in
-    detach_none _ _ height view (sym c.proper_strip.ensures ∙ not-false _ c.if-not-proper_strip.false)
+    detach_none _ _ height view (sym c.proper_strip.ensures ∙ c.if-not-proper_strip.false)

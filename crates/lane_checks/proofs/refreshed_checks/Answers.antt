@@ -16,18 +16,18 @@ pub returns-then-not-is_within : goal.returns-then-not-is_within
 returns-then-not-is_within c =
     let height = sym c.bad_height.ensures ∙ c.if-bad_height.false in
     let view = sym c.bad_view.ensures ∙ c.if-bad_view.false in
-    refreshed_window _ _ height view (sym c.is_within.ensures ∙ not-true _ c.if-not-is_within.true)
+    refreshed_window _ _ height view (sym c.is_within.ensures ∙ c.if-not-is_within.true)
 
 pub returns-then-not-proper_strip : goal.returns-then-not-proper_strip
 returns-then-not-proper_strip c =
     let height = sym c.bad_height.ensures ∙ c.if-bad_height.false in
     let view = sym c.bad_view.ensures ∙ c.if-bad_view.false in
-    let window = sym c.is_within.ensures ∙ not-false _ c.if-not-is_within.false in
-    refreshed_strip _ _ height view window (sym c.proper_strip.ensures ∙ not-true _ c.if-not-proper_strip.true)
+    let window = sym c.is_within.ensures ∙ c.if-not-is_within.false in
+    refreshed_strip _ _ height view window (sym c.proper_strip.ensures ∙ c.if-not-proper_strip.true)
 
 pub returns : goal.returns
 returns c =
     let height = sym c.bad_height.ensures ∙ c.if-bad_height.false in
     let view = sym c.bad_view.ensures ∙ c.if-bad_view.false in
-    let window = sym c.is_within.ensures ∙ not-false _ c.if-not-is_within.false in
-    refreshed_none _ _ height view window (sym c.proper_strip.ensures ∙ not-false _ c.if-not-proper_strip.false)
+    let window = sym c.is_within.ensures ∙ c.if-not-is_within.false in
+    refreshed_none _ _ height view window (sym c.proper_strip.ensures ∙ c.if-not-proper_strip.false)
