@@ -244,6 +244,7 @@ again_after x [] ds h r = ends ds r
   where
     ends : (ds : List Call) → AllAgain [] ds → after x ds ≡ x
     ends [] none = refl
+    ends (_ ∷ _) more = elim more [ ]
 again_after x (c ∷ cs) ds h r = go (step x c) (λ es. again_after (index_of (published x c)) cs es (unbroken_rest x c cs h)) r
   where
     Again-on : Type 0
@@ -252,6 +253,7 @@ again_after x (c ∷ cs) ds h r = go (step x c) (λ es. again_after (index_of (p
     taken :
         Acceptable x.head x.table c → Again-on → (es : List Call) → AllAgain (c ∷ accepted (index_of (published x c)) cs) es →
         after x es ≡ after (index_of (published x c)) cs
+    taken k ih [] more = elim more [ ]
     taken k ih (d ∷ es) (next a q) = ap (λ (o : Outcome). after (index_of o) es) (again_same x c d a k) ∙ ih es q
 
     go :
@@ -271,6 +273,7 @@ again_outcomes x [] ds h r = ends ds r
   where
     ends : (ds : List Call) → AllAgain [] ds → outcomes x ds ≡ relent_all ds []
     ends [] none = refl
+    ends (_ ∷ _) more = elim more [ ]
 again_outcomes x (c ∷ cs) ds h r = go (step x c) (λ es. again_outcomes (index_of (published x c)) cs es (unbroken_rest x c cs h)) r
   where
     left : List Outcome
@@ -282,6 +285,7 @@ again_outcomes x (c ∷ cs) ds h r = go (step x c) (λ es. again_outcomes (index
     taken :
         Acceptable x.head x.table c → Again-on → (es : List Call) → AllAgain (c ∷ accepted (index_of (published x c)) cs) es →
         outcomes x es ≡ relent_all es (published x c ∷ left)
+    taken k ih [] more = elim more [ ]
     taken k ih (d ∷ es) (next a q) = rw (again_same x c d a k) (ap (λ l. relent d (published x c) ∷ l) (ih es q))
 
     go :

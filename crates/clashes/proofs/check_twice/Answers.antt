@@ -1,10 +1,10 @@
 use Prim.Native.Nat.{◌-◌}
 use native.Mathlib.Omega.{arith}
-use mathlib.Core.Logic.{⊎_elim}
 use mathlib.Core.Path.{sym, ◌∙◌}
 use Rattle.rules.specs.Orders.{changes}
 use Rattle.clashes.proofs.Pairs.{pairs_all, pairs_none, seek_further, pairs_found, pairs_further}
 use Rattle.clashes.proofs.check_twice.Goals as goal
+use Rattle.clashes.proofs.check_twice.Goals.{else-pairs-test, then-pairs-test+then-loop-i-test+then-one_destination}
 
 pub pairs-init : goal.pairs-init
 pairs-init c = (omega arith, pairs_all _)
@@ -25,15 +25,22 @@ pairs-preserved c = (
 )
 
 pub overflow_cast-earlier : goal.overflow_cast-earlier
-overflow_cast-earlier c = ⊎_elim (λ w. absurd (omega arith)) (λ w. omega arith) c.pairs-test.branch
+overflow_cast-earlier c =
+    elim c.pairs-test.branch [
+      else-pairs-test w ↦ absurd (omega arith)
+    | then-pairs-test+then-loop-i-test+then-one_destination w ↦ omega arith
+    ]
 
 pub returns-then-j-n : goal.returns-then-j-n
 returns-then-j-n c =
-    ⊎_elim (λ w. absurd (omega arith))
-    (λ w.
-    rw w.5
-    (sym (c.pairs.invariant.1 ∙ pairs_found (changes c.args.list.now) c.pairs.j (omega arith) w.1.i w.1.inv.1 (omega arith) (sym w.3.ensures ∙ w.4.taken))))
-    c.pairs-test.branch
+    elim c.pairs-test.branch [
+      else-pairs-test w ↦ absurd (omega arith)
+    | then-pairs-test+then-loop-i-test+then-one_destination w ↦
+      rw w.i-is
+      (sym
+      (c.pairs.invariant.1 ∙ pairs_found (changes c.args.list.now) c.pairs.j (omega arith) w.loop-i.i w.loop-i.invariant.1
+      (omega arith) (sym w.one_destination.ensures ∙ w.if-one_destination.true)))
+    ]
 
 pub returns : goal.returns
 returns c =

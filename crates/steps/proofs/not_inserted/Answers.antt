@@ -2,12 +2,6 @@
 use Rattle.steps.proofs.Insertions.{undone_clean, undone_failed}
 use Rattle.steps.proofs.not_inserted.Goals as goal
 
-pub undo_below-undone-requires : goal.undo_below-undone-requires
-undo_below-undone-requires c = (
-  c.requires.ordered,
-  (c.requires.change_in_bounds, c.requires.read_in_bounds),
-)
-
 pub returns-in-Passes : goal.returns-in-Passes
 returns-in-Passes c = undone_clean _ _ c.undo_below-undone.ensures c.in-Passes.is
 

@@ -48,7 +48,7 @@ loop-i-preserved c =
     (rw c.posting_of-posting.ensures at
     c.insert_by-put.ensures)
     (sym c.blamed.ensures ∙ c.in_default-blamed.is)
-    c.insert_by-put.auto.1.0
+    c.insert_by-put.auto.table
 
 pub not_inserted-requires : goal.not_inserted-requires
 not_inserted-requires c =
@@ -57,8 +57,8 @@ not_inserted-requires c =
 
 pub shape_of-table-in-loop-i : goal.shape_of-table-in-loop-i
 shape_of-table-in-loop-i c =
-    c.not_inserted.auto.0 ∙
-    (c.insert_by-put.auto.1.0 ∙ c.loop-i.invariant.len)
+    c.not_inserted.auto.table ∙
+    (c.insert_by-put.auto.table ∙ c.loop-i.invariant.len)
 
 pub returns-in-loop-i : goal.returns-in-loop-i
 returns-in-loop-i c =

@@ -27,7 +27,7 @@ overflow_add-read c =
     )
 
 pub shape_of-table-then-taken : goal.shape_of-table-then-taken
-shape_of-table-then-taken c = c.remove_by-taken.auto.1.0 ∙ c.loop-i.invariant.len
+shape_of-table-then-taken c = c.remove_by-taken.auto.table ∙ c.loop-i.invariant.len
 
 pub returns-then-taken : goal.returns-then-taken
 returns-then-taken c =
@@ -51,7 +51,7 @@ loop-i-preserved c =
     c.byte_at-byte.ensures
     (rw c.posting_of-posting.ensures at
     c.remove_by-taken.ensures)
-    c.if-taken.false c.remove_by-taken.auto.1.0
+    c.if-taken.false c.remove_by-taken.auto.table
 
 pub shape_of-table : goal.shape_of-table
 shape_of-table c = c.loop-i.invariant.len

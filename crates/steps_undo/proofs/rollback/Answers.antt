@@ -27,7 +27,7 @@ undo_change-so_far-requires c =
 pub loop-place-preserved : goal.loop-place-preserved
 loop-place-preserved c =
     undo_turn c.loop-place.invariant
-    c.loop-place-test.true c.undo_change-so_far.auto.0
+    c.loop-place-test.true c.undo_change-so_far.auto.table
     c.undo_change-so_far.ensures
 
 pub shape_of-table : goal.shape_of-table

@@ -14,7 +14,7 @@ undo_change-so_far-requires c =
 pub loop-i-preserved : goal.loop-i-preserved
 loop-i-preserved c =
     undo_turn c.loop-i.invariant c.loop-i-test.true
-    c.undo_change-so_far.auto.0 c.undo_change-so_far.ensures
+    c.undo_change-so_far.auto.table c.undo_change-so_far.ensures
 
 pub shape_of-table : goal.shape_of-table
 shape_of-table c = c.loop-i.invariant.len

@@ -28,7 +28,7 @@ write-requires c =
     (sym c.find.ensures ∙ c.in-Gap.is)
     in
     let r = c.requires.0.room in
-    let k = c.raise.auto.0 in
+    let k = c.raise.auto.table in
     omega arith
 
 pub returns-in-At : goal.returns-in-At

@@ -35,7 +35,7 @@ write-requires c =
     (sym c.find.ensures ∙ c.in-At.is)
     in
     let r = c.requires.room in
-    let k = c.lower.auto.0 in
+    let k = c.lower.auto.table in
     omega arith
 
 pub overflow_sub-result : goal.overflow_sub-result

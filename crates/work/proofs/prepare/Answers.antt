@@ -15,7 +15,7 @@ prepare-inserted-requires c = let p = c.requires in (well_formed_ordered _ _ p.0
 
 pub done-requires : goal.done-requires
 done-requires c =
-    used_fits _ _ _ _ _ c.requires.table_value c.prepare-inserted.auto.0
+    used_fits _ _ _ _ _ c.requires.table_value c.prepare-inserted.auto.table
     c.prepare-inserted.ensures.carries
 
 pub shape_of-record : goal.shape_of-record
@@ -28,7 +28,7 @@ returns c =
     c.prepare-inserted.ensures c.if-is_accepted.«record» in
     ap (λ (r : Done). outcome_of r c.prepare-inserted.new.0 c.if-is_accepted.«record») c.done.ensures
     ∙ ⊎_elim
-    (λ w. shown true c.prepare-inserted.auto.0 (sym c.is_accepted.ensures ∙ w.0.taken)
+    (λ w. shown true c.prepare-inserted.auto.table (sym c.is_accepted.ensures ∙ w.0.taken)
     (w.5 ∙ w.2.ensures))
-    (λ w. shown false c.prepare-inserted.auto.0 (sym c.is_accepted.ensures ∙ w.0.left) w.1)
+    (λ w. shown false c.prepare-inserted.auto.table (sym c.is_accepted.ensures ∙ w.0.left) w.1)
     c.if-is_accepted.branch

@@ -26,7 +26,7 @@ pub done-requires : goal.done-requires
 done-requires c =
     used_fits _ _ _ _ _
     c.requires.table_value
-    (c.remove_sources-cleared.auto.0 ∙ c.prepare-brought.auto.0)
+    (c.remove_sources-cleared.auto.table ∙ c.prepare-brought.auto.table)
     c.remove_sources-cleared.ensures.carries
 
 pub returns-then-is_accepted : goal.returns-then-is_accepted
@@ -50,7 +50,7 @@ returns-then-is_accepted c =
     (changes
     c.args.list.now))
     _ _ _ _
-    (c.remove_sources-cleared.auto.0 ∙ c.prepare-brought.auto.0)
+    (c.remove_sources-cleared.auto.table ∙ c.prepare-brought.auto.table)
     (sym c.is_accepted.ensures ∙ c.if-is_accepted.true)
     c.write_record.ensures
     c.remove_sources-cleared.ensures
@@ -58,7 +58,7 @@ returns-then-is_accepted c =
 pub done-requires-2 : goal.done-requires-2
 done-requires-2 c =
     used_fits _ _ _ _ _ c.requires.table_value
-    c.prepare-brought.auto.0 c.prepare-brought.ensures.carries
+    c.prepare-brought.auto.table c.prepare-brought.ensures.carries
 
 pub returns : goal.returns
 returns c =
@@ -78,5 +78,5 @@ returns c =
     (sources
     (changes
     c.args.list.now))
-    c.prepare-brought.auto.0
+    c.prepare-brought.auto.table
     (sym c.is_accepted.ensures ∙ c.if-is_accepted.false)

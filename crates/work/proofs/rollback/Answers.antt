@@ -16,7 +16,7 @@ rollback-back-requires c = (
 pub done-requires : goal.done-requires
 done-requires c =
     used_fits _ _ _ _ _ c.requires.table_value
-    c.rollback-back.auto.0 c.rollback-back.ensures.carries
+    c.rollback-back.auto.table c.rollback-back.ensures.carries
 
 pub returns : goal.returns
 returns c =
@@ -36,4 +36,4 @@ returns c =
     c.args.head
     c.args.table.now _
     c.args.record.now
-    c.rollback-back.auto.0 _ _ _ c.rollback-back.ensures)
+    c.rollback-back.auto.table _ _ _ c.rollback-back.ensures)
