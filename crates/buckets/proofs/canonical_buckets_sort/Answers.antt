@@ -26,4 +26,4 @@ pub returns-in-Passes : goal.returns-in-Passes
 returns-in-Passes c =
     let passes = sym c.sort_checks.ensures ∙ c.in-Passes.is in
     let work = c.gather.ensures in
-    ap seen (sort_passed c.args.input.now c.args.count c.args.output.now passes work.0 work.1)
+    ap seen (sort_passed c.args.input.now c.args.count c.args.output.now passes work.value work.output_after)

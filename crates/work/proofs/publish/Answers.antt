@@ -17,10 +17,11 @@ pub write_record-requires : goal.write_record-requires
 write_record-requires c = c.requires.list_len_bound
 
 pub remove_sources-cleared-requires : goal.remove_sources-cleared-requires
-remove_sources-cleared-requires c = (
-  (carries_ordered _ _ _ c.prepare-brought.ensures.carries, c.requires.list_len_bound.0),
-  c.prepare-brought.ensures.few,
-)
+remove_sources-cleared-requires c =
+    record {
+      ordered = (carries_ordered _ _ _ c.prepare-brought.ensures.carries, c.requires.list_len_bound.0);
+      read_in_bounds = c.prepare-brought.ensures.few;
+    }
 
 pub done-requires : goal.done-requires
 done-requires c =
@@ -32,8 +33,8 @@ done-requires c =
 pub returns-then-is_accepted : goal.returns-then-is_accepted
 returns-then-is_accepted c =
     ap
-    (λ (r : Done). outcome_of r c.remove_sources-cleared.new.0
-    c.write_record.new.1.0)
+    (λ (r : Done). outcome_of r c.remove_sources-cleared.new.table
+    c.write_record.new.«record»)
     c.done.ensures
     ∙ published_in
     c.args.head
@@ -63,7 +64,7 @@ done-requires-2 c =
 pub returns : goal.returns
 returns c =
     ap
-    (λ (r : Done). outcome_of r c.prepare-brought.new.0
+    (λ (r : Done). outcome_of r c.prepare-brought.new.table
     c.args.record.now)
     c.done-2.ensures
     ∙ published_not

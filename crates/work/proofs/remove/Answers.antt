@@ -9,10 +9,11 @@ use Rattle.work.proofs.Showing.{used_fits, reached_shown}
 use Rattle.work.proofs.remove.Goals as goal
 
 pub remove_sources-cleared-requires : goal.remove_sources-cleared-requires
-remove_sources-cleared-requires c = (
-  (well_formed_ordered _ _ c.requires.table_value, c.requires.list_len_bound),
-  search rules,
-)
+remove_sources-cleared-requires c =
+    record {
+      ordered = (well_formed_ordered _ _ c.requires.table_value, c.requires.list_len_bound);
+      read_in_bounds = search rules;
+    }
 
 pub done-requires : goal.done-requires
 done-requires c =
@@ -21,7 +22,7 @@ done-requires c =
 
 pub returns : goal.returns
 returns c =
-    ap (λ (r : Done). outcome_of r c.remove_sources-cleared.new.0 []) c.done.ensures ∙
+    ap (λ (r : Done). outcome_of r c.remove_sources-cleared.new.table []) c.done.ensures ∙
     reached_shown c.args.head
     c.args.table.now _ []
     c.remove_sources-cleared.auto.table _ _ _ c.remove_sources-cleared.ensures

@@ -8,10 +8,11 @@ use Rattle.work.proofs.Showing.{done_of, used_fits, undone_shown}
 use Rattle.work.proofs.rollback.Goals as goal
 
 pub rollback-back-requires : goal.rollback-back-requires
-rollback-back-requires c = (
-  (well_formed_ordered _ _ c.requires.table_value, c.requires.list_len_bound),
-  c.requires.record_value,
-)
+rollback-back-requires c =
+    record {
+      ordered = (well_formed_ordered _ _ c.requires.table_value, c.requires.list_len_bound);
+      record_value = c.requires.record_value;
+    }
 
 pub done-requires : goal.done-requires
 done-requires c =
@@ -25,10 +26,10 @@ returns c =
     (done_of c.args.head
     (record
     { answer = a; used = c.rollback-back.result.used; read = c.rollback-back.result.read }))
-    c.rollback-back.new.0
+    c.rollback-back.new.table
     c.args.record.now in
     ap
-    (λ (r : Done). outcome_of r c.rollback-back.new.0
+    (λ (r : Done). outcome_of r c.rollback-back.new.table
     c.args.record.now)
     c.done.ensures
     ∙
