@@ -6,7 +6,9 @@ use Rattle.publish.specs.Promises.{seen_of}
 use Rattle.publish.proofs.prepare_index_destinations.Goals as goal
 
 pub prepare-requires : goal.prepare-requires
-prepare-requires c = prepare_ready _ _ _ (sym c.of_prepare.ensures ∙ c.in-Passes.is)
+prepare-requires c =
+    let ready = prepare_ready _ _ _ (sym c.of_prepare.ensures ∙ c.in-Passes.is) in
+    record { table_value = ready.0; list_len_bound = ready.1 }
 
 pub returns-in-Refused : goal.returns-in-Refused
 unfolding prepare_of

@@ -6,7 +6,9 @@ use Rattle.publish.specs.Promises.{seen_of}
 use Rattle.publish.proofs.remove_index_sources.Goals as goal
 
 pub remove-requires : goal.remove-requires
-remove-requires c = removal_ready _ _ _ (sym c.of_removal.ensures ∙ c.in-Passes.is)
+remove-requires c =
+    let ready = removal_ready _ _ _ (sym c.of_removal.ensures ∙ c.in-Passes.is) in
+    record { table_value = ready.0; list_len_bound = ready.1 }
 
 pub returns-in-Refused : goal.returns-in-Refused
 unfolding removal_of
