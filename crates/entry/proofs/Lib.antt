@@ -1,3 +1,2 @@
--- What the walks by hand share, and that each entry has one outcome.
-pub mod Walk
+-- That each entry has one outcome.
 pub mod Outcomes

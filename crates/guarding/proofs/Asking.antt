@@ -21,6 +21,7 @@ use Rattle.rules.specs.Orders.{changes, guards, proper_changes, proper_guards, p
 use Rattle.rules.specs.Checks.{key_held, guard_check, order_checks}
 use Rattle.checks.specs.Guarding.{first_unheld, bindings_from}
 use Rattle.checks.proofs.Guarding.{unheld_known}
+use Rattle.booleans.proofs.Tests.{clash}
 use Rattle.laws.proofs.Checks.{opened, order_passed}
 use Rattle.publish_core.proofs.Publishing.{order_proper}
 use Rattle.guarding.specs.declared.Wanted.{Wanted}
@@ -40,6 +41,15 @@ flat_even (g ∷ gs) = let ih = flat_even gs in omega arith
 pub pairs_known : (gs : List Guard) → leb (length gs) most_guards ≡ proper_guards (flat gs)
 unfolding proper_guards
 pairs_known gs = rw (eq-eqb (length (flat gs) % 2) 0 (flat_even gs), flat_guards gs)
+
+-- a test that is true holds, and one that is false does not
+pub true_holds : (b : Bool) → b ≡ true → T b
+true_holds true e = tt
+true_holds false e = absurd (clash false e refl)
+
+pub false_fails : (b : Bool) → b ≡ false → T (not b)
+false_fails true e = absurd (clash true refl e)
+false_fails false e = tt
 
 -- a choice at a test that holds, and at one that does not
 or_true : (x y : Bool) → T x → (x || y) ≡ true
