@@ -295,6 +295,8 @@ all_did_again :
     AllInner (map Called.publish ns) ps → seen_after ps ≡ relent_all (calls ps) (seen_after os) → AllDidAgain ms ns
 unfolding relent_all
 all_did_again [] [] AllAgain.none i j e = AllDidAgain.none
+all_did_again [] (n ∷ ns) {os = os} {ps = ps} more i j e = elim more [ ]
+all_did_again (m ∷ ms) [] {os = os} {ps = ps} fewer i j e = elim fewer [ ]
 all_did_again (m ∷ ms) (n ∷ ns) (AllAgain.next a q) (AllInner.publish i r) (AllInner.publish j t) e =
     AllDidAgain.next (inner_did_again i j (cc)) (all_did_again ms ns q r t (cc))
 
