@@ -1,6 +1,7 @@
-# For scripts of this folder, on a machine that is not x86-64: how to compile, link and run an x86-64 program with what the kit has.
+# For scripts of this folder, on a machine that is not x86-64: how to compile, link and run an x86-64 program with what the kit has and
+# an emulator of this machine's. Not run with this kit, which is for x86-64.
 . tools/kit.sh
-emulator=$toolchain/bin/qemu-x86_64
+emulator=$(command -v qemu-x86_64)
 loader=$toolchain/lib/ld-linux-x86-64.so.2
 
 # The kit's compiler has no headers of its own. Those of this machine's compiler fit: they ask the compiler for each size.
@@ -14,7 +15,7 @@ compile_x86_64() { # SOURCE OBJECT [WORDS...]
 link_x86_64() { # PROGRAM FILE...
     program=$1
     shift
-    "$kit/on/$machine/bin/rattle-link" --target x86_64-unknown-linux-gnu --toolchain "$toolchain" -o "$program" "$@"
+    "$kit/bin/rattle-link" --target x86_64-unknown-linux-gnu --toolchain "$toolchain" -o "$program" "$@"
 }
 
 run_x86_64() { # PROGRAM

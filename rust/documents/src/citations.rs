@@ -81,7 +81,7 @@ fn leading_fields(mut text: &str) -> (Vec<Vec<String>>, &str) {
         let Some(behind_dot) = behind_comma.unwrap_or(text).strip_prefix(" .") else {
             return (fields, text);
         };
-        let end = behind_dot.find(|c: char| !c.is_alphanumeric());
+        let end = behind_dot.find(|c: char| !c.is_alphanumeric() && c != '_');
         let (field, rest) = behind_dot.split_at(end.unwrap_or(behind_dot.len()));
         match fields.last_mut() {
             Some(steps) if behind_comma.is_none() => steps.push(field.to_string()),

@@ -55,11 +55,11 @@ fn documents_cite_enough() {
 
 /// How many names each line cites. All of them are there.
 const RIGHT: &str = "\
-2 `held-at`, `at-held` (laws, Names)
+2 `held_at`, `at_held` (laws, Names)
 2 `compare` and `after_trying` (passes, src)
-2 (`told-injective` (laws, Answers)), not `this`; `check_guards` (checks, src), not `that` (or that)
-2 `prepare-clauses` .okRecord, .okNamed, `prefix-record` (history, Upstream)
-1 `refreshed-clauses` .pass .valid, .pass .yes, .yesSame (lane_laws, Upstream)
+2 (`told_injective` (laws, Answers)), not `this`; `check_guards` (checks, src), not `that` (or that)
+2 `prepare_clauses` .ok_record, .ok_named, `prefix_record` (history, Upstream)
+1 `refreshed_clauses` .pass .valid, .pass .yes, .yes_same (lane_laws, Upstream)
 3 `View` (lane_rules, src), `MOST_INPUT` (bucket_checks, src), `asdrifen_count` (exports_postings, src)
 1 edit `always-25` (lane_rules, lane_rounds)
 2 (edits `always-25`, `rounds-made-up` (lane_rounds))
@@ -94,8 +94,8 @@ fn a_wrong_name_is_reported() {
     // The last two are a field and a helper of a proof, and so no declarations.
     reported(
         "\
-`guard-named` (laws, Names) => no guard-named in (laws, Names)
-`guarded`, `guard-names` (laws, Names) => no guarded in (laws, Names)
+`guard_named` (laws, Names) => no guard_named in (laws, Names)
+`guarded`, `guard_names` (laws, Names) => no guarded in (laws, Names)
 `check_guard` (checks, src) => no check_guard in (checks, src)
 `nearest` (laws, Names) => no nearest in (laws, Names)
 `go` (laws, Names) => no go in (laws, Names)",
@@ -106,8 +106,8 @@ fn a_wrong_name_is_reported() {
 fn a_wrong_file_is_reported() {
     reported(
         "\
-`guard-names` (laws, Calls) => no guard-names in (laws, Calls)
-`guard-names` (laws, Called) => no (laws, Called)
+`guard_names` (laws, Calls) => no guard_names in (laws, Calls)
+`guard_names` (laws, Called) => no (laws, Called)
 the lemmas of (exports_lent, Outcome) => no (exports_lent, Outcome)",
     );
 }
@@ -116,8 +116,8 @@ the lemmas of (exports_lent, Outcome) => no (exports_lent, Outcome)",
 fn a_wrong_crate_is_reported() {
     reported(
         "\
-`guard-names` (rules, Names) => no (rules, Names)
-`guard-names` (law, Names) => no (law, Names)
+`guard_names` (rules, Names) => no (rules, Names)
+`guard_names` (law, Names) => no (law, Names)
 `check_guards` (steps, src) => no check_guards in (steps, src)
 `check_guards` (check, src) => no (check, src)",
     );
@@ -142,8 +142,8 @@ fn a_missing_field_is_reported() {
     reported(
         "\
 `FirstPair` .order, .pair (laws, Names) => no .pair of FirstPair
-`UndoLeaves` .recordList (history, Failures) => no .recordList of UndoLeaves
-`prepare-clauses` .requiresIndices (history, Upstream) => no .requiresIndices of prepare-clauses
-`refreshed-clauses` .pass .yesSame (lane_laws, Upstream) => no .pass .yesSame of refreshed-clauses",
+`UndoLeaves` .record_list (history, Failures) => no .record_list of UndoLeaves
+`prepare_clauses` .requires_indices (history, Upstream) => no .requires_indices of prepare_clauses
+`refreshed_clauses` .pass .yes_same (lane_laws, Upstream) => no .pass .yes_same of refreshed_clauses",
     );
 }
