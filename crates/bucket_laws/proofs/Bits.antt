@@ -16,7 +16,7 @@ use Rattle.booleans.proofs.Tests.{either}
 use Rattle.masks.specs.Masks.{most_lanes, lane_in}
 use Rattle.masks.proofs.Lanes.{no_lane, same_lanes}
 use Rattle.bucket_rules.specs.declared.Answer.{Answer}
-use Rattle.bucket_rules.specs.Buckets.{mark, bits, numbers_for, membership}
+use Rattle.bucket_rules.specs.Buckets.{mark, numbers_for, membership}
 use Rattle.lent_lists.specs.Among.{among}
 use Rattle.bucket_rules.specs.Calls.{list_after, bitmap_of}
 use Rattle.bucket_laws.specs.Clauses.{InRange, bit_in, BitmapRoom, BitmapShort, Answers, MembershipBits, ScratchClauses}

@@ -96,7 +96,7 @@ room_bitmap_exactly input count output scratch =
 
 -- one law for both engines: their answer by any test of what they were lent
 module _ (input : List ℕ) (count : ℕ) (short : Bool) (Short Room : Type 0)
-    (is-short : (short ≡ true) ↔ Short) (has_room : (short ≡ false) ↔ Room) where
+    (is_short : (short ≡ true) ↔ Short) (has_room : (short ≡ false) ↔ Room) where
   -- what is answered, and where
   abbrev Found : Answer → Type 0
   Found = Answers input count Short Room
@@ -110,7 +110,7 @@ module _ (input : List ℕ) (count : ℕ) (short : Bool) (Short Room : Type 0)
       by_cases P (over_limits input count)
       (λ h. Answers.limits ((over_limits_exactly input count).0 h))
       (λ h. by_cases P short
-      (λ k. Answers.short ((within_limits_exactly input count).0 h) (is-short.0 k))
+      (λ k. Answers.short ((within_limits_exactly input count).0 h) (is_short.0 k))
       (λ k. go ((within_limits_exactly input count).0 h) (has_room.0 k) (range_check count input) (ranged input count)))
     where
       go :
@@ -123,7 +123,7 @@ module _ (input : List ℕ) (count : ℕ) (short : Bool) (Short Room : Type 0)
   placed : (a : Answer) → Found a → answer_of short input count ≡ a
   unfolding answer_of checks
   placed a (Answers.limits o) = rw ((over_limits_exactly input count).1 o)
-  placed a (Answers.short w s) = rw ((within_limits_exactly input count).1 w, is-short.1 s)
+  placed a (Answers.short w s) = rw ((within_limits_exactly input count).1 w, is_short.1 s)
   placed a (Answers.range {b} w r f) =
       rw ((within_limits_exactly input count).1 w, has_room.1 r, (range_names_exactly input count b).1 f)
   placed a (Answers.accepted w r i e) =

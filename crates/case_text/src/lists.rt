@@ -5,8 +5,8 @@ ghost use Rattle.std.specs.Prelude.{◌≤◌, length};
 
 // The smaller of two sizes.
 fn least(size: usize, other: usize) -> usize
-    ensures upper_bound { result ≤ size }
-    ensures upper_bound_2 { result ≤ other }
+    ensures within_size { result ≤ size }
+    ensures within_other { result ≤ other }
 {
     if size < other { size } else { other }
 }

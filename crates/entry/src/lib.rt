@@ -1,7 +1,6 @@
 // The final entries: the head is lent and set in place, and the held guards are a lent list of guards. They are thin over the
 // by-value core that `publish` calls too, which knows no list of guards; what they promise is said of its flat numbers.
-// Any numbers may come in. The prover does not walk code over a reference to a struct, so `poison_indexes`, `held`, `key_held`,
-// `first_unheld` and `publish` are proved by hand; whatever decides anything is in `guarding`, in small functions over plain values.
+// Any numbers may come in. Whatever decides anything is in `guarding`, in small functions over plain values.
 #![tactic(auto)]
 
 ghost use Rattle.std.specs.Prelude.{◌≡◌};

@@ -9,6 +9,7 @@ pub mod Exactly
 pub mod Yes
 pub mod No
 pub mod Numbers
+pub mod Enough
 pub mod Live
 pub mod Places
 pub mod Slow

@@ -21,7 +21,8 @@ use Rattle.lane_rules.specs.Rounds.{round, rounds, detaching}
 use Rattle.lane_rules.specs.Calls.{bad_height, bad_view, bad_strip, entry_checks, ended, detach_of}
 use Rattle.lane_laws.specs.Ends.{NoErrors}
 use Rattle.lane_laws.specs.Slow.{slow_strip, slow_view, AlwaysEnough}
-use Rattle.lane_laws.proofs.Live.{accepted_had_rounds, more_rounds, no_errors_retire}
+use Rattle.lane_laws.proofs.Enough.{accepted_had_rounds}
+use Rattle.lane_laws.proofs.Live.{more_rounds, no_errors_retire}
 
 -- the slow strip has as many bytes as it is asked for
 pub slow_length : (n : ℕ) → length (slow_strip n) ≡ n

@@ -83,7 +83,7 @@ pub fn binding(earlier: Verdict, bindings: u32, list: &[u32], unheld: usize) -> 
 // 7 TWICE, 8 PRESENT.
 pub fn arriving(earlier: Verdict, table: &[u32], used: u32, list: &[u32]) -> Verdict
     requires ordered { earlier ≡ Verdict.Passes → Ordered table.now used }
-    requires list_len_bound { earlier ≡ Verdict.Passes → length (changes list.now) ≤ most_changes }
+    requires within_limits { earlier ≡ Verdict.Passes → length (changes list.now) ≤ most_changes }
     ensures { result ≡ first_refusal
         (earlier ∷ arriving_checks (postings used table.now) (changes list.now) ∷ []) }
 {

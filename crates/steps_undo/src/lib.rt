@@ -30,7 +30,7 @@ pub struct Back {
 fn undo_change(table: &mut [u32], list: &[u32], strip: &[u8], number: usize, so_far: Back) -> Back
     requires ordered { Ordered table.old so_far.used }
     requires number_in_bounds { (number < length (changes list.now)) × (length (changes list.now) ≤ most_changes) }
-    requires so_far_bound { so_far.read + 1 < 2 ^ 64 }
+    requires read_fits { so_far.read + 1 < 2 ^ 64 }
     ensures { OneUndone strip.now number (get_or (changes list.now) number no_change) so_far
         table.old result table.new }
 {
@@ -89,7 +89,7 @@ pub fn undo_below(
 // Rollback: the destinations of a record are removed, from its end to its start.
 pub fn rollback(table: &mut [u32], list: &[u32], strip: &[u8], record: &[u32], used: usize) -> Back
     requires ordered { Ordered table.old used × (length (changes list.now) ≤ most_changes) }
-    requires record_value { every (λ n. ltb n (length (changes list.now))) «record».now ≡ true }
+    requires record_in_bounds { every (λ n. ltb n (length (changes list.now))) «record».now ≡ true }
     ensures { UndoneIn
         (undoing strip.now (reverse (recorded (changes list.now) «record».now))
         Verdict.Passes 0 (postings used table.old))

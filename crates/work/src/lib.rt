@@ -41,8 +41,8 @@ pub fn prepare(
     strip: &[u8],
     record: &mut [u32],
 ) -> Done
-    requires table_value { well_formed head table.old ≡ true }
-    requires list_len_bound { (length (changes list.now) ≤ most_changes) × (length (changes list.now) ≤ length «record».old) }
+    requires table_formed { well_formed head table.old ≡ true }
+    requires within_limits { (length (changes list.now) ≤ most_changes) × (length (changes list.now) ≤ length «record».old) }
     ensures { outcome_of result table.new «record».new ≡ prepare_work head table.old (changes list.now)
         strip.now «record».old }
 {
@@ -62,8 +62,8 @@ pub fn publish(
     strip: &[u8],
     record: &mut [u32],
 ) -> Done
-    requires table_value { well_formed head table.old ≡ true }
-    requires list_len_bound { (length (changes list.now) ≤ most_changes) × (length (changes list.now) ≤ length «record».old) }
+    requires table_formed { well_formed head table.old ≡ true }
+    requires within_limits { (length (changes list.now) ≤ most_changes) × (length (changes list.now) ≤ length «record».old) }
     ensures { outcome_of result table.new «record».new ≡ publish_work head table.old (changes list.now)
         strip.now «record».old }
 {
@@ -79,9 +79,9 @@ pub fn publish(
 
 // Accepted where no removal failed, else 12 with the last change whose removal did.
 pub fn rollback(head: Head, table: &mut [u32], list: &[u32], strip: &[u8], record: &[u32]) -> Done
-    requires table_value { well_formed head table.old ≡ true }
-    requires list_len_bound { length (changes list.now) ≤ most_changes }
-    requires record_value { every (λ n. ltb n (length (changes list.now))) «record».now ≡ true }
+    requires table_formed { well_formed head table.old ≡ true }
+    requires within_limits { length (changes list.now) ≤ most_changes }
+    requires record_in_bounds { every (λ n. ltb n (length (changes list.now))) «record».now ≡ true }
     ensures { outcome_of result table.new «record».now ≡ rollback_work head table.old (changes list.now)
         strip.now «record».now }
 {
@@ -99,8 +99,8 @@ pub fn rollback(head: Head, table: &mut [u32], list: &[u32], strip: &[u8], recor
 
 // Accepted where no removal failed, else 13 with the change whose removal did.
 pub fn remove(head: Head, table: &mut [u32], list: &[u32], strip: &[u8]) -> Done
-    requires table_value { well_formed head table.old ≡ true }
-    requires list_len_bound { length (changes list.now) ≤ most_changes }
+    requires table_formed { well_formed head table.old ≡ true }
+    requires within_limits { length (changes list.now) ≤ most_changes }
     ensures { outcome_of result table.new [] ≡ removal_work head table.old (changes list.now) strip.now [] }
 {
     let cleared = remove_sources(

@@ -1,8 +1,6 @@
-use Prim.Native.Nat.{◌-◌}
 use native.Mathlib.Omega.{arith}
 use mathlib.Core.Logic.{inl, inr}
 use mathlib.Core.Path.{sym, ◌∙◌}
-use borrow.Author.Tests.{eqb-true, eqb-false}
 use Rattle.checks.proofs.Guards.{held_here, held_further, held_none}
 use Rattle.checks.proofs.is_held.Goals as goal
 use Rattle.checks.proofs.is_held.Goals.{else-pairs-i-via-then-pairs-i+else-pairs-i-2, else-pairs-i-via-else-pairs-i}
@@ -18,8 +16,8 @@ loop-i-preserved c = (
   omega arith,
   c.loop-i.invariant.1 ∙ held_further _ _ c.args.pairs.now c.loop-i.i (omega arith)
       (elim c.else-pairs-i.branch [
-        else-pairs-i-via-then-pairs-i+else-pairs-i-2 w ↦ inr w.if-pairs-i-2.false
-      | else-pairs-i-via-else-pairs-i w ↦ inl w.if-pairs-i.false
+        | else-pairs-i-via-then-pairs-i+else-pairs-i-2 w ↦ inr w.if-pairs-i-2.false
+        | else-pairs-i-via-else-pairs-i w ↦ inl w.if-pairs-i.false
       ]),
 )
 

@@ -1,4 +1,3 @@
-use Prim.Native.Nat.{◌-◌}
 use native.Mathlib.Omega.{arith}
 use mathlib.Core.Path.{sym, ◌∙◌}
 use Rattle.rules.specs.Orders.{changes}
@@ -27,19 +26,19 @@ pairs-preserved c = (
 pub overflow_cast-earlier : goal.overflow_cast-earlier
 overflow_cast-earlier c =
     elim c.pairs-test.branch [
-      else-pairs-test w ↦ absurd (omega arith)
-    | then-pairs-test+then-loop-i-test+then-one_destination w ↦ omega arith
+      | else-pairs-test w ↦ absurd (omega arith)
+      | then-pairs-test+then-loop-i-test+then-one_destination w ↦ omega arith
     ]
 
 pub returns-then-j-n : goal.returns-then-j-n
 returns-then-j-n c =
     elim c.pairs-test.branch [
-      else-pairs-test w ↦ absurd (omega arith)
-    | then-pairs-test+then-loop-i-test+then-one_destination w ↦
-      rw w.i-is
-      (sym
-      (c.pairs.invariant.1 ∙ pairs_found (changes c.args.list.now) c.pairs.j (omega arith) w.loop-i.i w.loop-i.invariant.1
-      (omega arith) (sym w.one_destination.ensures ∙ w.if-one_destination.true)))
+      | else-pairs-test w ↦ absurd (omega arith)
+      | then-pairs-test+then-loop-i-test+then-one_destination w ↦
+          rw w.i-is
+          (sym
+          (c.pairs.invariant.1 ∙ pairs_found (changes c.args.list.now) c.pairs.j (omega arith) w.loop-i.i w.loop-i.invariant.1
+          (omega arith) (sym w.one_destination.ensures ∙ w.if-one_destination.true)))
     ]
 
 pub returns : goal.returns

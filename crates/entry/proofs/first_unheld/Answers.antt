@@ -1,6 +1,5 @@
-use Rattle.std.proofs.Common.{◌≡◌, true, false, sym, ◌∙◌, ap, arith}
+use Rattle.std.proofs.Common.{◌≡◌, sym, ◌∙◌, ap, arith}
 use Rattle.rules.specs.Orders.{changes}
-use Rattle.guarding.specs.declared.Wanted.{Wanted}
 use Rattle.guarding.specs.Asking.{wanted_held}
 use Rattle.guarding.proofs.Asking.{asked_within, true_holds, false_fails, unheld_further, unheld_here, unheld_nowhere}
 use Rattle.entry.proofs.first_unheld.Goals as goal

@@ -1,5 +1,5 @@
 use Rattle.std.proofs.Common.{sym, ◌∙◌, arith}
-use Rattle.guarding.proofs.Asking.{is_guard, true_holds, false_fails, held_here, held_further, held_nowhere}
+use Rattle.guarding.proofs.Asking.{true_holds, false_fails, held_here, held_further, held_nowhere}
 use Rattle.entry.proofs.held.Goals as goal
 
 pub returns-then-is_guard : goal.returns-then-is_guard

@@ -1,5 +1,4 @@
 -- The core's head is stored as a whole, and the flag is set where the core decided so.
-use Rattle.std.proofs.Common.{true, false}
 use Rattle.guarding.proofs.Asking.{true_holds, false_fails}
 use Rattle.guarding.proofs.InPlace.{poisoned_in_place, kept_in_place}
 use Rattle.entry.proofs.publish.Goals as goal

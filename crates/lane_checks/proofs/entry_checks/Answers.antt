@@ -1,6 +1,5 @@
 -- Check by check, in their order.
 use mathlib.Core.Path.{sym, ◌∙◌}
-use borrow.Author.Tests.{not-true, not-false}
 use Rattle.lane_checks.proofs.Checking.{detach_height, detach_view, detach_strip, detach_none}
 use Rattle.lane_checks.proofs.entry_checks.Goals as goal
 

@@ -1,6 +1,5 @@
 -- Check by check, in their order.
 use mathlib.Core.Path.{sym, ◌∙◌}
-use borrow.Author.Tests.{not-true, not-false}
 use Rattle.lane_checks.proofs.Checking.{refreshed_height, refreshed_view, refreshed_window, refreshed_strip, refreshed_none}
 use Rattle.lane_checks.proofs.refreshed_checks.Goals as goal
 

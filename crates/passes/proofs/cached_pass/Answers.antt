@@ -1,11 +1,7 @@
 use Prim.Native.Nat.{ℕ, ◌-◌}
 use native.Mathlib.Omega.{arith}
-use mathlib.Core.Path.{◌≡◌, sym, ap, ◌∙◌}
-use mathlib.Core.Bool.{true}
-use borrow.Author.Tests.{not-true, not-false}
+use mathlib.Core.Path.{sym, ap, ◌∙◌}
 use borrow.Author.Rules.{rules}
-use Rattle.strips.specs.Strips.{byte_at}
-use Rattle.masks.specs.Masks.{lane_in}
 use Rattle.lane_rules.specs.Steps.{compared}
 use Rattle.passes.proofs.Caching.{caching_start, caching_outside, caching_end, caching_yes, caching_stop}
 use Rattle.passes.proofs.cached_pass.Goals as goal

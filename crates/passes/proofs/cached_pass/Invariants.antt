@@ -1,5 +1,4 @@
 -- A turn for each lane, from the top lane down.
-use Prim.Native.Nat.{◌-◌}
 use Rattle.passes.proofs.Caching.{Caching}
 use Rattle.passes.proofs.cached_pass.Given as goal
 

@@ -1,7 +1,6 @@
 -- Skipped or tried, by the window.
 use Prim.Native.Nat.{ℕ}
 use mathlib.Core.Path.{sym, ap, ◌∙◌}
-use borrow.Author.Tests.{not-true, not-false}
 use Rattle.lane_rules.specs.Steps.{compared}
 use Rattle.passes.proofs.Steps.{try_skipped, try_tried}
 use Rattle.passes.proofs.try_lane.Goals as goal

@@ -8,7 +8,7 @@ use Rattle.publish.proofs.prepare_index_destinations.Goals as goal
 pub prepare-requires : goal.prepare-requires
 prepare-requires c =
     let ready = prepare_ready _ _ _ (sym c.of_prepare.ensures ∙ c.in-Passes.is) in
-    record { table_value = ready.0; list_len_bound = ready.1 }
+    record { table_formed = ready.0; within_limits = ready.1 }
 
 pub returns-in-Refused : goal.returns-in-Refused
 unfolding prepare_of

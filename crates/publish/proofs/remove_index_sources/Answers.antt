@@ -8,7 +8,7 @@ use Rattle.publish.proofs.remove_index_sources.Goals as goal
 pub remove-requires : goal.remove-requires
 remove-requires c =
     let ready = removal_ready _ _ _ (sym c.of_removal.ensures ∙ c.in-Passes.is) in
-    record { table_value = ready.0; list_len_bound = ready.1 }
+    record { table_formed = ready.0; within_limits = ready.1 }
 
 pub returns-in-Refused : goal.returns-in-Refused
 unfolding removal_of

@@ -8,7 +8,7 @@ use Rattle.publish.proofs.rollback_index_destinations.Goals as goal
 pub rollback-requires : goal.rollback-requires
 rollback-requires c =
     let ready = rollback_ready _ _ _ (sym c.of_rollback.ensures ∙ c.in-Passes.is) in
-    record { table_value = ready.0; list_len_bound = ready.1.0; record_value = ready.1.1 }
+    record { table_formed = ready.0; within_limits = ready.1.0; record_in_bounds = ready.1.1 }
 
 pub returns-in-Refused : goal.returns-in-Refused
 unfolding rollback_of

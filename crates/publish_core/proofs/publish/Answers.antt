@@ -8,14 +8,14 @@ use Rattle.publish_core.proofs.publish.Goals as goal
 
 pub arriving-arrived-requires : goal.arriving-arrived-requires
 arriving-arrived-requires c =
-    let r = c.requires in record { ordered = (λ p. well_formed_ordered _ _ (r p).formed); list_len_bound = (λ p. (r p).few) }
+    let r = c.requires in record { ordered = (λ p. well_formed_ordered _ _ (r p).formed); within_limits = (λ p. (r p).few) }
 
 pub leaving-requires : goal.leaving-requires
 leaving-requires c = λ p. (c.requires (passed _ (sym c.arriving-arrived.ensures ∙ p)).0).few
 
 pub publish-requires : goal.publish-requires
 publish-requires c =
-    let p = passed _ (sym (joined _ _ c.arriving-arrived.ensures c.leaving.ensures) ∙ c.in-Passes.is) in let r = c.requires p.0 in record { table_value = r.formed; list_len_bound = (r.few, r.places) }
+    let p = passed _ (sym (joined _ _ c.arriving-arrived.ensures c.leaving.ensures) ∙ c.in-Passes.is) in let r = c.requires p.0 in record { table_formed = r.formed; within_limits = (r.few, r.places) }
 
 pub returns-in-Refused : goal.returns-in-Refused
 unfolding core_of

@@ -8,14 +8,14 @@ pub returns-in_default : goal.returns-in_default
 returns-in_default c = ends _ refl c.in_default.is
 
 pub check_twice-single-requires : goal.check_twice-single-requires
-check_twice-single-requires c = c.requires.list_len_bound c.in-Passes.is
+check_twice-single-requires c = c.requires.within_limits c.in-Passes.is
 
 pub returns-in_default-single : goal.returns-in_default-single
 unfolding arriving_checks twice_check
 returns-in_default-single c = goes_on refl c.in-Passes.is (ends _ c.check_twice-single.ensures c.in_default-single.is)
 
 pub check_present-requires : goal.check_present-requires
-check_present-requires c = let p = c.in-Passes.is in (c.requires.ordered p, c.requires.list_len_bound p)
+check_present-requires c = let p = c.in-Passes.is in (c.requires.ordered p, c.requires.within_limits p)
 
 pub returns : goal.returns
 unfolding arriving_checks twice_check present_check

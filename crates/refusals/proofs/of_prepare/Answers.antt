@@ -13,7 +13,7 @@ guarding-guarded-requires c =
 pub arriving-requires : goal.arriving-requires
 arriving-requires c =
     let before = joined _ _ (joined _ _ (joined _ _ (one _ c.opening-opened.ensures) c.lent-proper.ensures) c.room-roomy.ensures) c.guarding-guarded.ensures in
-    record { ordered = (λ p. well_formed_ordered _ _ (opened _ _ (passed _ (sym before ∙ p)).0).0); list_len_bound = (λ p. lent_few _ _ _ (passed _ (sym before ∙ p)).1.0) }
+    record { ordered = (λ p. well_formed_ordered _ _ (opened _ _ (passed _ (sym before ∙ p)).0).0); within_limits = (λ p. lent_few _ _ _ (passed _ (sym before ∙ p)).1.0) }
 
 pub returns : goal.returns
 unfolding prepare_checks

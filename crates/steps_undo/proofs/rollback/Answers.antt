@@ -22,7 +22,7 @@ undo_change-so_far-requires c =
     let f = c.loop-place.invariant.few in
     let b =
     number_below _ _ (c.loop-place.place - 1)
-    c.requires.record_value (omega arith) in record { ordered = c.loop-place.invariant.ordered; number_in_bounds = (b, c.requires.ordered.1); so_far_bound = omega arith }
+    c.requires.record_in_bounds (omega arith) in record { ordered = c.loop-place.invariant.ordered; number_in_bounds = (b, c.requires.ordered.1); read_fits = omega arith }
 
 pub loop-place-preserved : goal.loop-place-preserved
 loop-place-preserved c =

@@ -1,5 +1,4 @@
 -- What is left of the record, undone from here, gives the whole.
-use Prim.Native.Nat.{◌-◌}
 use lib.ListN.{length}
 use Rattle.rules.specs.Orders.{changes}
 use Rattle.steps_undo.specs.Leaving.{as_recorded}

@@ -9,7 +9,7 @@ loop-i-init c = undo_start in_order _ _ _ _ _ _ c.requires.ordered
 pub undo_change-so_far-requires : goal.undo_change-so_far-requires
 undo_change-so_far-requires c =
     let l = c.loop-i.invariant.low in
-    let f = c.loop-i.invariant.few in record { ordered = c.loop-i.invariant.ordered; number_in_bounds = (omega arith, c.requires.change_in_bounds.1); so_far_bound = omega arith }
+    let f = c.loop-i.invariant.few in record { ordered = c.loop-i.invariant.ordered; number_in_bounds = (omega arith, c.requires.change_in_bounds.1); read_fits = omega arith }
 
 pub loop-i-preserved : goal.loop-i-preserved
 loop-i-preserved c =

@@ -1,5 +1,5 @@
 -- From the last number down: those from k on have gone up.
-use Prim.Native.Nat.{◌-◌, ◌≤◌}
+use Prim.Native.Nat.{◌≤◌}
 use mathlib.Core.Path.{◌≡◌}
 use lib.ListN.{length}
 use Rattle.lent_lists.specs.Raised.{raised}

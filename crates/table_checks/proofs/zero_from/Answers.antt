@@ -1,4 +1,3 @@
-use Prim.Native.Nat.{◌-◌}
 use mathlib.Core.Path.{refl, sym, ◌∙◌}
 use borrow.Author.Rules.{rules}
 use Rattle.table_checks.proofs.Walks.{zeros_turn, zeros_end}

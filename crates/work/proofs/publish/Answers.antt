@@ -9,24 +9,24 @@ use Rattle.work.proofs.publish.Goals as goal
 
 pub prepare-brought-requires : goal.prepare-brought-requires
 prepare-brought-requires c = (
-  well_formed_ordered _ _ c.requires.table_value,
-  c.requires.list_len_bound.0,
+  well_formed_ordered _ _ c.requires.table_formed,
+  c.requires.within_limits.0,
 )
 
 pub write_record-requires : goal.write_record-requires
-write_record-requires c = c.requires.list_len_bound
+write_record-requires c = c.requires.within_limits
 
 pub remove_sources-cleared-requires : goal.remove_sources-cleared-requires
 remove_sources-cleared-requires c =
     record {
-      ordered = (carries_ordered _ _ _ c.prepare-brought.ensures.carries, c.requires.list_len_bound.0);
+      ordered = (carries_ordered _ _ _ c.prepare-brought.ensures.carries, c.requires.within_limits.0);
       read_in_bounds = c.prepare-brought.ensures.few;
     }
 
 pub done-requires : goal.done-requires
 done-requires c =
     used_fits _ _ _ _ _
-    c.requires.table_value
+    c.requires.table_formed
     (c.remove_sources-cleared.auto.table ∙ c.prepare-brought.auto.table)
     c.remove_sources-cleared.ensures.carries
 
@@ -58,7 +58,7 @@ returns-then-is_accepted c =
 
 pub done-requires-2 : goal.done-requires-2
 done-requires-2 c =
-    used_fits _ _ _ _ _ c.requires.table_value
+    used_fits _ _ _ _ _ c.requires.table_formed
     c.prepare-brought.auto.table c.prepare-brought.ensures.carries
 
 pub returns : goal.returns

@@ -11,13 +11,13 @@ use Rattle.work.proofs.remove.Goals as goal
 pub remove_sources-cleared-requires : goal.remove_sources-cleared-requires
 remove_sources-cleared-requires c =
     record {
-      ordered = (well_formed_ordered _ _ c.requires.table_value, c.requires.list_len_bound);
+      ordered = (well_formed_ordered _ _ c.requires.table_formed, c.requires.within_limits);
       read_in_bounds = search rules;
     }
 
 pub done-requires : goal.done-requires
 done-requires c =
-    used_fits _ _ _ _ _ c.requires.table_value
+    used_fits _ _ _ _ _ c.requires.table_formed
     c.remove_sources-cleared.auto.table c.remove_sources-cleared.ensures.carries
 
 pub returns : goal.returns

@@ -10,13 +10,13 @@ use Rattle.work.proofs.rollback.Goals as goal
 pub rollback-back-requires : goal.rollback-back-requires
 rollback-back-requires c =
     record {
-      ordered = (well_formed_ordered _ _ c.requires.table_value, c.requires.list_len_bound);
-      record_value = c.requires.record_value;
+      ordered = (well_formed_ordered _ _ c.requires.table_formed, c.requires.within_limits);
+      record_in_bounds = c.requires.record_in_bounds;
     }
 
 pub done-requires : goal.done-requires
 done-requires c =
-    used_fits _ _ _ _ _ c.requires.table_value
+    used_fits _ _ _ _ _ c.requires.table_formed
     c.rollback-back.auto.table c.rollback-back.ensures.carries
 
 pub returns : goal.returns
