@@ -32,7 +32,7 @@ pub record Stage : Type 0 where
 -- a change could not be inserted: the answer that says why, where the undo was clean; else 12, with that same change
 abbrev pub why_not : Verdict → Answer → ℕ → Answer
 why_not Verdict.Passes why change = why
-why_not (Verdict.Refused last) why change = Answer.Undo change
+why_not (Verdict.Refused a) why change = Answer.Undo change
 
 -- that answer, with what the undo left
 abbrev pub not_inserted : Answer → ℕ → Undone → Stage
