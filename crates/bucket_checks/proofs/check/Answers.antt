@@ -11,5 +11,4 @@ returns-then-short c = checks_room _ _ (sym c.over_limits.ensures ∙ c.if-over_
 
 pub returns : goal.returns
 returns c =
-    c.range_check.ensures ∙ checks_range _ _ (sym c.over_limits.ensures
-    ∙ c.if-over_limits.false) _ c.if-short.false
+    c.range_check.ensures ∙ checks_range _ _ (sym c.over_limits.ensures ∙ c.if-over_limits.false) _ c.if-short.false

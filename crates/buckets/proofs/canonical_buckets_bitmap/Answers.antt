@@ -26,6 +26,5 @@ pub returns-in-Passes : goal.returns-in-Passes
 returns-in-Passes c =
     let passes = sym c.bitmap_checks.ensures ∙ c.in-Passes.is in
     let work = c.spread.ensures in
-    ap seen
-    (bitmap_passed c.args.input.now c.args.count c.args.output.now c.args.scratch.now passes work.value
+    ap seen (bitmap_passed c.args.input.now c.args.count c.args.output.now c.args.scratch.now passes work.value
     work.output_after work.scratch_after)

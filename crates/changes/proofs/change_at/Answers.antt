@@ -60,5 +60,4 @@ bounds-list-first-6 c = omega (arith, changes_length c.args.list.now)
 
 pub returns : goal.returns
 returns c =
-    rw (c.key_of-2.ensures, c.key_of.ensures)
-    (sym (change_read c.args.list.now _ c.requires))
+    rw (c.key_of-2.ensures, c.key_of.ensures) (sym (change_read c.args.list.now _ c.requires))

@@ -16,12 +16,9 @@ loop-number-preserved c =
 pub returns-else-is_bound : goal.returns-else-is_bound
 returns-else-is_bound c =
     let read = c.change_at in
-    sym
-    (c.loop-number.invariant.1 ∙ bindings_left _ _ (changes c.args.list.now) c.loop-number.number read.result false
+    sym (c.loop-number.invariant.1 ∙ bindings_left _ _ (changes c.args.list.now) c.loop-number.number read.result false
     (omega arith) read.ensures (sym c.is_bound.ensures ∙ c.if-is_bound.false))
 
 pub returns : goal.returns
 returns c =
-    sym
-    (c.loop-number.invariant.1 ∙ bindings_none _ _ (changes c.args.list.now)
-    c.loop-number.number (omega arith))
+    sym (c.loop-number.invariant.1 ∙ bindings_none _ _ (changes c.args.list.now) c.loop-number.number (omega arith))

@@ -8,7 +8,8 @@ use Rattle.checks.proofs.check_bindings.Given as goal
 
 abbrev pub invariant-loop-number : goal.invariant-loop-number
 invariant-loop-number l =
-    (l.number ≤ l.n) × (bindings_from l.bindings l.unheld 0 (changes l.list) ≡ bindings_from l.bindings l.unheld l.number (drop l.number (changes l.list)))
+    (l.number ≤ l.n) × (bindings_from l.bindings l.unheld 0 (changes l.list) ≡ bindings_from l.bindings l.unheld l.number
+    (drop l.number (changes l.list)))
 
 abbrev pub decreases-loop-number : goal.decreases-loop-number
 decreases-loop-number l = l.n - l.number

@@ -18,13 +18,10 @@ pub returns-else-is_guarded : goal.returns-else-is_guarded
 unfolding guard_check
 returns-else-is_guarded c =
     let read = c.change_at in
-    sym
-    (c.loop-i.invariant.1 ∙ failing_left no_change _ _ (changes c.args.list.now) c.loop-i.i read.result false
+    sym (c.loop-i.invariant.1 ∙ failing_left no_change _ _ (changes c.args.list.now) c.loop-i.i read.result false
     (omega arith) read.ensures (sym c.is_guarded.ensures ∙ c.if-is_guarded.false))
 
 pub returns : goal.returns
 unfolding guard_check
 returns c =
-    sym
-    (c.loop-i.invariant.1 ∙ failing_none no_change _ _ (changes c.args.list.now)
-    c.loop-i.i (omega arith))
+    sym (c.loop-i.invariant.1 ∙ failing_none no_change _ _ (changes c.args.list.now) c.loop-i.i (omega arith))

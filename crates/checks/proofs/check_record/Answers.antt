@@ -9,14 +9,12 @@ pub loop-place-init : goal.loop-place-init
 loop-place-init c = (omega arith, few_none _ _, record_all _ _)
 
 pub overflow_cast-result : goal.overflow_cast-result
-overflow_cast-result c =
-    omega (arith, few_places _ c.loop-place.place _ c.loop-place.invariant.1)
+overflow_cast-result c = omega (arith, few_places _ c.loop-place.place _ c.loop-place.invariant.1)
 
 pub returns-then-stands_earlier : goal.returns-then-stands_earlier
 unfolding record_check
 returns-then-stands_earlier c =
-    sym
-    (c.loop-place.invariant.2 ∙ record_repeats (changes c.args.list.now) c.args.«record».now c.loop-place.place
+    sym (c.loop-place.invariant.2 ∙ record_repeats (changes c.args.list.now) c.args.«record».now c.loop-place.place
     (omega arith) (sym c.stands_earlier.ensures ∙ c.if-stands_earlier.true))
 
 pub loop-place-preserved : goal.loop-place-preserved
@@ -37,13 +35,11 @@ overflow_cast-result-else-is_recordable c =
 pub returns-else-is_recordable : goal.returns-else-is_recordable
 unfolding record_check
 returns-else-is_recordable c =
-    sym
-    (c.loop-place.invariant.2 ∙ record_means_nothing (changes c.args.list.now) c.args.«record».now
+    sym (c.loop-place.invariant.2 ∙ record_means_nothing (changes c.args.list.now) c.args.«record».now
     c.loop-place.place (omega arith) (sym c.is_recordable.ensures ∙ c.if-is_recordable.false))
 
 pub returns : goal.returns
 unfolding record_check
 returns c =
-    sym
-    (c.loop-place.invariant.2 ∙ record_none (changes c.args.list.now) c.args.«record».now c.loop-place.place
+    sym (c.loop-place.invariant.2 ∙ record_none (changes c.args.list.now) c.args.«record».now c.loop-place.place
     (omega arith))

@@ -7,8 +7,7 @@ use Rattle.checks.proofs.is_guarded.Goals as goal
 pub returns-then-key_held : goal.returns-then-key_held
 unfolding guarded
 returns-then-key_held c =
-    rw (lt-ltb _ _ c.if-change-bindings.true, sym c.key_held.ensures ∙ c.if-key_held.true)
-    c.key_held-then-key_held.ensures
+    rw (lt-ltb _ _ c.if-change-bindings.true, sym c.key_held.ensures ∙ c.if-key_held.true) c.key_held-then-key_held.ensures
 
 pub returns-else-key_held : goal.returns-else-key_held
 unfolding guarded

@@ -7,8 +7,7 @@ use Rattle.checks.proofs.is_held.Goals.{else-pairs-i-via-then-pairs-i+else-pairs
 
 pub returns-then-pairs-i-2 : goal.returns-then-pairs-i-2
 returns-then-pairs-i-2 c =
-    sym
-    (c.loop-i.invariant.1 ∙ held_here _ _ c.args.pairs.now c.loop-i.i (omega arith)
+    sym (c.loop-i.invariant.1 ∙ held_here _ _ c.args.pairs.now c.loop-i.i (omega arith)
     c.if-pairs-i.true c.if-pairs-i-2.true)
 
 pub loop-i-preserved : goal.loop-i-preserved
@@ -22,5 +21,4 @@ loop-i-preserved c = (
 )
 
 pub returns : goal.returns
-returns c =
-    sym (c.loop-i.invariant.1 ∙ held_none _ _ c.args.pairs.now c.loop-i.i (omega arith))
+returns c = sym (c.loop-i.invariant.1 ∙ held_none _ _ c.args.pairs.now c.loop-i.i (omega arith))

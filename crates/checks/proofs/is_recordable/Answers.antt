@@ -8,9 +8,7 @@ use Rattle.checks.proofs.is_recordable.Goals as goal
 pub returns-then-i-count_of : goal.returns-then-i-count_of
 returns-then-i-count_of c =
     c.has_destination.ensures ∙ sym
-    (recordable_there (changes c.args.list.now) c.args.number c.change_at.result (omega arith)
-    c.change_at.ensures)
+    (recordable_there (changes c.args.list.now) c.args.number c.change_at.result (omega arith) c.change_at.ensures)
 
 pub returns : goal.returns
-returns c =
-    sym (recordable_past (changes c.args.list.now) c.args.number (omega arith))
+returns c = sym (recordable_past (changes c.args.list.now) c.args.number (omega arith))

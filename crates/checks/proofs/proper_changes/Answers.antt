@@ -20,8 +20,7 @@ loop-first-preserved c =
 pub returns-else-proper_keys : goal.returns-else-proper_keys
 returns-else-proper_keys c =
     let h : c.loop-first.first + 6 ≤ length c.args.list.now = omega arith in
-    sym
-    (c.loop-first.invariant.2 ∙ proper_left c.args.list.now c.loop-first.first false h
+    sym (c.loop-first.invariant.2 ∙ proper_left c.args.list.now c.loop-first.first false h
     (sym c.proper_keys.ensures ∙ c.if-proper_keys.false))
 
 pub returns : goal.returns

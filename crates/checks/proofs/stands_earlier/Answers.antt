@@ -7,8 +7,7 @@ use Rattle.checks.proofs.stands_earlier.Goals as goal
 
 pub returns-then-record-i : goal.returns-then-record-i
 returns-then-record-i c =
-    sym
-    (c.loop-i.invariant.1 ∙ among_left _ c.args.«record».now _ c.requires c.loop-i.i true
+    sym (c.loop-i.invariant.1 ∙ among_left _ c.args.«record».now _ c.requires c.loop-i.i true
     c.loop-i-test.true (eq-eqb _ _ (sym c.if-record-i.true)))
 
 pub loop-i-preserved : goal.loop-i-preserved
@@ -20,5 +19,4 @@ loop-i-preserved c = (
 
 pub returns : goal.returns
 returns c =
-    sym
-    (c.loop-i.invariant.1 ∙ earlier_none _ c.args.«record».now _ c.requires c.loop-i.i c.loop-i-test.false)
+    sym (c.loop-i.invariant.1 ∙ earlier_none _ c.args.«record».now _ c.requires c.loop-i.i c.loop-i-test.false)

@@ -10,8 +10,7 @@ use Rattle.clashes.proofs.check_overlap.Goals as goal
 pub returns-then-overlaps : goal.returns-then-overlaps
 returns-then-overlaps c =
     let read = c.change_at in
-    sym
-    (c.loop-i.invariant.1 ∙ first_source _ Answer.Overlap (changes c.args.list.now) c.loop-i.i
+    sym (c.loop-i.invariant.1 ∙ first_source _ Answer.Overlap (changes c.args.list.now) c.loop-i.i
     read.result true (omega arith) read.ensures (sym c.overlaps.ensures ∙ c.if-overlaps.true))
 
 pub loop-i-preserved : goal.loop-i-preserved
@@ -24,6 +23,5 @@ loop-i-preserved c =
 
 pub returns : goal.returns
 returns c =
-    sym
-    (c.loop-i.invariant.1 ∙ no_source (λ s. present s (postings_of (destinations (changes c.args.list.now))))
+    sym (c.loop-i.invariant.1 ∙ no_source (λ s. present s (postings_of (destinations (changes c.args.list.now))))
     Answer.Overlap (changes c.args.list.now) c.loop-i.i (omega arith))

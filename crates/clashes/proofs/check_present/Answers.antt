@@ -11,8 +11,7 @@ use Rattle.clashes.proofs.check_present.Goals as goal
 pub returns-then-is_present : goal.returns-then-is_present
 returns-then-is_present c =
     let read = c.change_at in
-    sym
-    (c.loop-i.invariant.1 ∙ first_destination _ Answer.Present (changes c.args.list.now)
+    sym (c.loop-i.invariant.1 ∙ first_destination _ Answer.Present (changes c.args.list.now)
     c.loop-i.i read.result true (omega arith) read.ensures (sym c.is_present.ensures ∙ c.if-is_present.true))
 
 pub loop-i-preserved : goal.loop-i-preserved
@@ -26,6 +25,5 @@ loop-i-preserved c =
 
 pub returns : goal.returns
 returns c =
-    sym
-    (c.loop-i.invariant.1 ∙ no_destination (λ d. present d (postings c.args.used c.args.table.now))
+    sym (c.loop-i.invariant.1 ∙ no_destination (λ d. present d (postings c.args.used c.args.table.now))
     Answer.Present (changes c.args.list.now) c.loop-i.i (omega arith))

@@ -35,14 +35,10 @@ returns-then-j-n c =
     elim c.pairs-test.branch [
       | else-pairs-test w ↦ absurd (omega arith)
       | then-pairs-test+then-loop-i-test+then-one_destination w ↦
-          rw w.i-is
-          (sym
+          rw w.i-is (sym
           (c.pairs.invariant.1 ∙ pairs_found (changes c.args.list.now) c.pairs.j (omega arith) w.loop-i.i w.loop-i.invariant.1
           (omega arith) (sym w.one_destination.ensures ∙ w.if-one_destination.true)))
     ]
 
 pub returns : goal.returns
-returns c =
-    sym
-    (c.pairs.invariant.1 ∙ pairs_none (changes c.args.list.now) c.pairs.j
-    (omega arith))
+returns c = sym (c.pairs.invariant.1 ∙ pairs_none (changes c.args.list.now) c.pairs.j (omega arith))

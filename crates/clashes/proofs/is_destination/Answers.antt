@@ -7,8 +7,7 @@ use Rattle.clashes.proofs.is_destination.Goals as goal
 
 pub returns-then-goes_to : goal.returns-then-goes_to
 returns-then-goes_to c =
-    sym
-    (c.loop-i.invariant.1 ∙ present_left _ (changes c.args.list.now) c.loop-i.i true
+    sym (c.loop-i.invariant.1 ∙ present_left _ (changes c.args.list.now) c.loop-i.i true
     (omega arith) (sym c.goes_to.ensures ∙ c.if-goes_to.true))
 
 pub loop-i-preserved : goal.loop-i-preserved

@@ -8,8 +8,7 @@ use Rattle.clashes.proofs.is_destination.Given as goal
 
 abbrev pub invariant-loop-i : goal.invariant-loop-i
 invariant-loop-i l =
-    (l.i ≤ l.n) ×
-    (present l.p (postings_of (destinations (changes l.list))) ≡ present l.p
+    (l.i ≤ l.n) × (present l.p (postings_of (destinations (changes l.list))) ≡ present l.p
     (postings_of (destinations_from l.i (drop l.i (changes l.list)))))
 
 abbrev pub decreases-loop-i : goal.decreases-loop-i

@@ -10,7 +10,8 @@ wanted_at-wanted-requires c =
 
 pub loop-place-preserved : goal.loop-place-preserved
 loop-place-preserved c =
-    let held = sym (ap (wanted_held c.args.guards.now) c.wanted_at-wanted.ensures) ∙ sym c.key_held.ensures ∙ c.if-key_held.true in (
+    let held = sym (ap (wanted_held c.args.guards.now) c.wanted_at-wanted.ensures) ∙ sym c.key_held.ensures ∙
+    c.if-key_held.true in (
       omega arith,
       c.loop-place.invariant.1 ∙ unheld_further c.args.guards.now (changes c.args.list.now) c.loop-place.place _
           c.loop-place-test.true (true_holds _ held),
@@ -18,13 +19,14 @@ loop-place-preserved c =
 
 pub returns-else-key_held : goal.returns-else-key_held
 returns-else-key_held c =
-    let unheld = sym (ap (wanted_held c.args.guards.now) c.wanted_at-wanted.ensures) ∙ sym c.key_held.ensures ∙ c.if-key_held.false in
-    sym
-    (c.loop-place.invariant.1 ∙ unheld_here c.args.guards.now (changes c.args.list.now) c.loop-place.place _
+    let unheld = sym (ap (wanted_held c.args.guards.now) c.wanted_at-wanted.ensures) ∙ sym c.key_held.ensures ∙
+    c.if-key_held.false in
+    sym (c.loop-place.invariant.1 ∙ unheld_here c.args.guards.now (changes c.args.list.now) c.loop-place.place _
     c.loop-place-test.true (false_fails _ unheld))
 
 pub returns : goal.returns
 returns c =
     let end : c.loop-place.place ≡ c.keys_asked-n.result = omega arith in
     sym end
-    ∙ sym (c.loop-place.invariant.1 ∙ unheld_nowhere c.args.guards.now (changes c.args.list.now) c.loop-place.place _ c.loop-place-test.false)
+    ∙ sym (c.loop-place.invariant.1 ∙ unheld_nowhere c.args.guards.now (changes c.args.list.now) c.loop-place.place _
+    c.loop-place-test.false)

@@ -4,8 +4,7 @@ use Rattle.entry.proofs.held.Goals as goal
 
 pub returns-then-is_guard : goal.returns-then-is_guard
 returns-then-is_guard c =
-    sym
-    (c.loop-i.invariant.1 ∙ held_here c.args.guards.now c.args.binding c.args.key c.loop-i.i _ c.loop-i-test.true
+    sym (c.loop-i.invariant.1 ∙ held_here c.args.guards.now c.args.binding c.args.key c.loop-i.i _ c.loop-i-test.true
     (true_holds _ (sym c.is_guard.ensures ∙ c.if-is_guard.true)))
 
 pub loop-i-preserved : goal.loop-i-preserved

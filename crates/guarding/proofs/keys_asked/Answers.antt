@@ -7,11 +7,23 @@ returns-then-poisoned-ne0 c = rw (ne_eqb _ _ c.if-poisoned-ne0.true)
 
 pub returns-then-guards-le-MOST_GUARDS : goal.returns-then-guards-le-MOST_GUARDS
 returns-then-guards-le-MOST_GUARDS c =
-    rw (eq-eqb _ _ c.if-poisoned-ne0.false, ← c.count_of-n.ensures, le-leb _ _ c.if-n-le-MOST_CHANGES.true, le-leb _ _ c.if-guards-le-MOST_GUARDS.true)
+    rw (
+      eq-eqb _ _ c.if-poisoned-ne0.false,
+      ← c.count_of-n.ensures,
+      le-leb _ _ c.if-n-le-MOST_CHANGES.true,
+      le-leb _ _
+          c.if-guards-le-MOST_GUARDS.true,
+    )
 
 pub returns-else-guards-le-MOST_GUARDS : goal.returns-else-guards-le-MOST_GUARDS
 returns-else-guards-le-MOST_GUARDS c =
-    rw (eq-eqb _ _ c.if-poisoned-ne0.false, ← c.count_of-n.ensures, le-leb _ _ c.if-n-le-MOST_CHANGES.true, lt-leb _ _ c.if-guards-le-MOST_GUARDS.false)
+    rw (
+      eq-eqb _ _ c.if-poisoned-ne0.false,
+      ← c.count_of-n.ensures,
+      le-leb _ _ c.if-n-le-MOST_CHANGES.true,
+      lt-leb _ _
+          c.if-guards-le-MOST_GUARDS.false,
+    )
 
 pub returns-else-n-le-MOST_CHANGES : goal.returns-else-n-le-MOST_CHANGES
 returns-else-n-le-MOST_CHANGES c =

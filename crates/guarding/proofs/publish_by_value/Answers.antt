@@ -14,4 +14,5 @@ publish-done-requires c =
 
 pub returns : goal.returns
 returns c =
-    hands_back _ _ _ _ _ (c.publish-done.ensures ∙ core_after _ _ _ _ _ (joined _ _ (one _ c.of_order-ordered.ensures) c.binding-guarded.ensures))
+    hands_back _ _ _ _ _ (c.publish-done.ensures ∙ core_after _ _ _ _ _ (joined _ _ (one _ c.of_order-ordered.ensures)
+    c.binding-guarded.ensures))

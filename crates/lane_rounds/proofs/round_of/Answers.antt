@@ -15,6 +15,5 @@ pub returns : goal.returns
 returns c =
     let given = c.args in
     let byte = ap (λ (b : ℕ). refreshed b given.attached given.window) c.byte_at.ensures in
-    c.pass_with.ensures
-    ∙ round_passed given.strip.now _ _ _ _ c.refresh-found.result (c.refresh-found.ensures ∙ byte)
+    c.pass_with.ensures ∙ round_passed given.strip.now _ _ _ _ c.refresh-found.result (c.refresh-found.ensures ∙ byte)
     c.refreshed_pass.result c.if-found.false c.refreshed_pass.ensures

@@ -15,10 +15,8 @@ overflow_sub-lent c = let low = c.loop-left.invariant.low in search rules
 
 pub returns-in-Yes : goal.returns-in-Yes
 returns-in-Yes c =
-    c.ended_by.ensures
-    ∙ sym
-    (rounding_yes c.loop-left.invariant c.round_of-last.result c.loop-left-test.true c.round_of-last.ensures
-    c.in-Yes.is)
+    c.ended_by.ensures ∙ sym
+    (rounding_yes c.loop-left.invariant c.round_of-last.result c.loop-left-test.true c.round_of-last.ensures c.in-Yes.is)
 
 pub loop-left-preserved : goal.loop-left-preserved
 loop-left-preserved c =
@@ -30,8 +28,7 @@ overflow_sub-lent-in-Error c = let low = c.loop-left.invariant.low in search rul
 
 pub returns-in-Error : goal.returns-in-Error
 returns-in-Error c =
-    c.ended_by-in-Error.ensures
-    ∙ sym
+    c.ended_by-in-Error.ensures ∙ sym
     (rounding_error c.loop-left.invariant c.round_of-last.result c.loop-left-test.true c.round_of-last.ensures
     c.in-Error.is)
 

@@ -11,9 +11,7 @@ loop-lane-init c = caching_start _ _ _ _
 
 pub returns-then-not-lane_in : goal.returns-then-not-lane_in
 returns-then-not-lane_in c =
-    sym
-    (caching_outside c.loop-lane.invariant c.loop-lane-test.true
-    (sym c.lane_in.ensures ∙ c.if-not-lane_in.true))
+    sym (caching_outside c.loop-lane.invariant c.loop-lane-test.true (sym c.lane_in.ensures ∙ c.if-not-lane_in.true))
 
 pub overflow_add-read : goal.overflow_add-read
 overflow_add-read c = let few = c.loop-lane.invariant.few in let low = c.loop-lane-test.true in search rules
@@ -21,13 +19,16 @@ overflow_add-read c = let few = c.loop-lane.invariant.few in let low = c.loop-la
 pub returns-then-not-is_yes : goal.returns-then-not-is_yes
 returns-then-not-is_yes c =
     sym
-    (caching_stop c.loop-lane.invariant c.compare-tried.result c.loop-lane-test.true (sym c.lane_in.ensures ∙ c.if-not-lane_in.false)
-    (c.compare-tried.ensures ∙ ap (λ (byte : ℕ). compared byte (c.loop-lane.lane - 1) c.loop-lane.remain) c.byte_at.ensures) (sym c.is_yes.ensures ∙ c.if-not-is_yes.true))
+    (caching_stop c.loop-lane.invariant c.compare-tried.result c.loop-lane-test.true (sym c.lane_in.ensures ∙
+    c.if-not-lane_in.false)
+    (c.compare-tried.ensures ∙ ap (λ (byte : ℕ). compared byte (c.loop-lane.lane - 1) c.loop-lane.remain)
+    c.byte_at.ensures) (sym c.is_yes.ensures ∙ c.if-not-is_yes.true))
 
 pub loop-lane-preserved : goal.loop-lane-preserved
 loop-lane-preserved c =
     caching_yes c.loop-lane.invariant c.compare-tried.result c.loop-lane-test.true (sym c.lane_in.ensures ∙ c.if-not-lane_in.false)
-    (c.compare-tried.ensures ∙ ap (λ (byte : ℕ). compared byte (c.loop-lane.lane - 1) c.loop-lane.remain) c.byte_at.ensures) (sym c.is_yes.ensures ∙ c.if-not-is_yes.false)
+    (c.compare-tried.ensures ∙ ap (λ (byte : ℕ). compared byte (c.loop-lane.lane - 1) c.loop-lane.remain)
+    c.byte_at.ensures) (sym c.is_yes.ensures ∙ c.if-not-is_yes.false)
 
 pub returns : goal.returns
 returns c = sym (caching_end c.loop-lane.invariant (omega arith))

@@ -12,8 +12,7 @@ try_lane-pass-requires c = let few = c.loop-lane.invariant.few in let low = c.lo
 
 pub returns-then-has_failed : goal.returns-then-has_failed
 returns-then-has_failed c =
-    sym
-    (refreshing_error c.loop-lane.invariant c.try_lane-pass.result c.loop-lane-test.true
+    sym (refreshing_error c.loop-lane.invariant c.try_lane-pass.result c.loop-lane-test.true
     c.try_lane-pass.ensures (sym c.has_failed.ensures ∙ c.if-has_failed.true))
 
 pub loop-lane-preserved : goal.loop-lane-preserved

@@ -16,7 +16,4 @@ returns-in-Refused c = rw (sym c.of_prepare.ensures ∙ c.in-Refused.is)
 
 pub returns-in-Passes : goal.returns-in-Passes
 unfolding prepare_of
-returns-in-Passes c =
-    rw
-    (sym c.of_prepare.ensures ∙ c.in-Passes.is)
-    (ap seen_of c.prepare.ensures)
+returns-in-Passes c = rw (sym c.of_prepare.ensures ∙ c.in-Passes.is) (ap seen_of c.prepare.ensures)

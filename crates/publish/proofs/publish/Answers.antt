@@ -14,4 +14,5 @@ publish-requires c =
 
 pub returns : goal.returns
 returns c =
-    ap seen_of (c.publish.ensures ∙ core_publishes _ _ _ _ _ _ _ _ _ (joined _ _ (one _ c.of_order-ordered.ensures) c.guarding-guarded.ensures) c.proper_guards-paired.ensures (λ _. refl))
+    ap seen_of (c.publish.ensures ∙ core_publishes _ _ _ _ _ _ _ _ _ (joined _ _ (one _ c.of_order-ordered.ensures)
+    c.guarding-guarded.ensures) c.proper_guards-paired.ensures (λ _. refl))

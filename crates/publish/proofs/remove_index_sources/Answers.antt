@@ -16,7 +16,4 @@ returns-in-Refused c = rw (sym c.of_removal.ensures ∙ c.in-Refused.is)
 
 pub returns-in-Passes : goal.returns-in-Passes
 unfolding removal_of
-returns-in-Passes c =
-    rw
-    (sym c.of_removal.ensures ∙ c.in-Passes.is)
-    (ap seen_of c.remove.ensures)
+returns-in-Passes c = rw (sym c.of_removal.ensures ∙ c.in-Passes.is) (ap seen_of c.remove.ensures)

@@ -17,6 +17,4 @@ returns-in-Refused c = rw (sym c.of_rollback.ensures ∙ c.in-Refused.is)
 pub returns-in-Passes : goal.returns-in-Passes
 unfolding rollback_of
 returns-in-Passes c =
-    rw
-    (sym c.of_rollback.ensures ∙ c.in-Passes.is)
-    (ap seen_of c.rollback.ensures)
+    rw (sym c.of_rollback.ensures ∙ c.in-Passes.is) (ap seen_of c.rollback.ensures)

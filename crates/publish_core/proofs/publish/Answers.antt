@@ -15,7 +15,10 @@ leaving-requires c = λ p. (c.requires (passed _ (sym c.arriving-arrived.ensures
 
 pub publish-requires : goal.publish-requires
 publish-requires c =
-    let p = passed _ (sym (joined _ _ c.arriving-arrived.ensures c.leaving.ensures) ∙ c.in-Passes.is) in let r = c.requires p.0 in record { table_formed = r.formed; within_limits = (r.few, r.places) }
+    let p = passed _ (sym (joined _ _ c.arriving-arrived.ensures c.leaving.ensures) ∙ c.in-Passes.is) in let r = c.requires p.0 in record {
+      table_formed = r.formed;
+      within_limits = (r.few, r.places);
+    }
 
 pub returns-in-Refused : goal.returns-in-Refused
 unfolding core_of

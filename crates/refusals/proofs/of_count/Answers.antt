@@ -14,9 +14,11 @@ returns-in_default c = ends _ c.opening-opened.ensures c.in_default.is
 pub returns-then-binding-head : goal.returns-then-binding-head
 unfolding count_checks
 returns-then-binding-head c =
-    goes_on c.opening-opened.ensures c.in-Passes.is (sym (ap (λ (b : Bool). must b (Answer.Guard 0)) (lt-ltb _ _ c.if-binding-head.true)))
+    goes_on c.opening-opened.ensures c.in-Passes.is (sym (ap (λ (b : Bool). must b (Answer.Guard 0)) (lt-ltb _ _
+    c.if-binding-head.true)))
 
 pub returns : goal.returns
 unfolding count_checks
 returns c =
-    goes_on c.opening-opened.ensures c.in-Passes.is (sym (ap (λ (b : Bool). must b (Answer.Guard 0)) (le-ltb _ _ c.if-binding-head.false)))
+    goes_on c.opening-opened.ensures c.in-Passes.is (sym (ap (λ (b : Bool). must b (Answer.Guard 0)) (le-ltb _ _
+    c.if-binding-head.false)))

@@ -12,4 +12,5 @@ guarding-requires c =
 pub returns : goal.returns
 unfolding removal_checks
 returns c =
-    rw (← c.proper_guards.ensures) (joined _ _ (joined _ _ (one _ c.opening-opened.ensures) c.lent-proper.ensures) c.guarding.ensures)
+    rw (← c.proper_guards.ensures) (joined _ _ (joined _ _ (one _ c.opening-opened.ensures) c.lent-proper.ensures)
+    c.guarding.ensures)

@@ -11,9 +11,11 @@ guarding-guarded-requires c =
 
 pub recording-requires : goal.recording-requires
 recording-requires c =
-    λ p. lent_few _ _ _ (passed _ (sym (joined _ _ (joined _ _ (one _ c.opening-opened.ensures) c.lent-proper.ensures) c.guarding-guarded.ensures) ∙ p)).1.0
+    λ p. lent_few _ _ _ (passed _ (sym (joined _ _ (joined _ _ (one _ c.opening-opened.ensures) c.lent-proper.ensures)
+    c.guarding-guarded.ensures) ∙ p)).1.0
 
 pub returns : goal.returns
 unfolding rollback_checks
 returns c =
-    rw (← c.proper_guards.ensures) (joined _ _ (joined _ _ (joined _ _ (one _ c.opening-opened.ensures) c.lent-proper.ensures) c.guarding-guarded.ensures) c.recording.ensures)
+    rw (← c.proper_guards.ensures) (joined _ _ (joined _ _ (joined _ _ (one _ c.opening-opened.ensures)
+    c.lent-proper.ensures) c.guarding-guarded.ensures) c.recording.ensures)

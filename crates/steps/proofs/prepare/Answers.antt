@@ -9,8 +9,7 @@ loop-i-init c = prepare_start _ _ _ _ c.requires.0
 
 pub loop-i-preserved-in_default : goal.loop-i-preserved-in_default
 loop-i-preserved-in_default c =
-    prepare_pass c.loop-i.invariant (omega arith) _
-    c.change_at-change.ensures
+    prepare_pass c.loop-i.invariant (omega arith) _ c.change_at-change.ensures
     (sym c.destination_of.ensures ∙ c.in_default.is)
 
 pub insert_by-put-requires : goal.insert_by-put-requires
@@ -30,56 +29,39 @@ overflow_add-inserted c =
 
 pub loop-i-preserved : goal.loop-i-preserved
 loop-i-preserved c =
-    prepare_clear
-    c.loop-i.invariant
+    prepare_clear c.loop-i.invariant
     (omega (
       arith,
       c.loop-i-test.true,
       c.count_of-n.ensures,
     ))
-    _
-    c.change_at-change.ensures
-    _ _ _ _
-    (sym
-    c.destination_of.ensures
-    ∙ c.in-Named.is)
-    c.byte_at-byte.ensures
-    (rw c.posting_of-posting.ensures at
-    c.insert_by-put.ensures)
-    (sym c.blamed.ensures ∙ c.in_default-blamed.is)
+    _ c.change_at-change.ensures _ _ _ _ (sym c.destination_of.ensures ∙ c.in-Named.is) c.byte_at-byte.ensures
+    (rw c.posting_of-posting.ensures at c.insert_by-put.ensures) (sym c.blamed.ensures ∙ c.in_default-blamed.is)
     c.insert_by-put.auto.table
 
 pub not_inserted-requires : goal.not_inserted-requires
 not_inserted-requires c =
     let f = c.loop-i.invariant.few in
-    let l = c.loop-i.invariant.low in record { ordered = carries_ordered _ _ _ c.insert_by-put.ensures.carries; change_in_bounds = (l, c.requires.1); read_in_bounds = omega arith }
+    let l = c.loop-i.invariant.low in record {
+      ordered = carries_ordered _ _ _ c.insert_by-put.ensures.carries;
+      change_in_bounds = (l, c.requires.1);
+      read_in_bounds = omega arith;
+    }
 
 pub shape_of-table-in-loop-i : goal.shape_of-table-in-loop-i
 shape_of-table-in-loop-i c =
-    c.not_inserted.auto.table ∙
-    (c.insert_by-put.auto.table ∙ c.loop-i.invariant.len)
+    c.not_inserted.auto.table ∙ (c.insert_by-put.auto.table ∙ c.loop-i.invariant.len)
 
 pub returns-in-loop-i : goal.returns-in-loop-i
 returns-in-loop-i c =
-    prepare_stop
-    c.loop-i.invariant
+    prepare_stop c.loop-i.invariant
     (omega (
       arith,
       c.loop-i-test.true,
       c.count_of-n.ensures,
     ))
-    _
-    c.change_at-change.ensures
-    _ _ _ _
-    (sym
-    c.destination_of.ensures
-    ∙ c.in-Named.is)
-    c.byte_at-byte.ensures
-    (rw
-    c.posting_of-posting.ensures
-    at c.insert_by-put.ensures)
-    _ _ _
-    (sym c.blamed.ensures ∙ c.in-Refused.is)
+    _ c.change_at-change.ensures _ _ _ _ (sym c.destination_of.ensures ∙ c.in-Named.is) c.byte_at-byte.ensures (rw
+    c.posting_of-posting.ensures at c.insert_by-put.ensures) _ _ _ (sym c.blamed.ensures ∙ c.in-Refused.is)
     c.not_inserted.ensures
 
 pub shape_of-table : goal.shape_of-table

@@ -9,8 +9,7 @@ loop-i-init c = remove_start _ _ _ _ _ _ c.requires.ordered.0
 
 pub loop-i-preserved-in_default : goal.loop-i-preserved-in_default
 loop-i-preserved-in_default c =
-    remove_pass c.loop-i.invariant (omega arith) _
-    c.change_at-change.ensures (sym c.source_of.ensures ∙ c.in_default.is)
+    remove_pass c.loop-i.invariant (omega arith) _ c.change_at-change.ensures (sym c.source_of.ensures ∙ c.in_default.is)
 
 pub remove_by-taken-requires : goal.remove_by-taken-requires
 remove_by-taken-requires c = c.loop-i.invariant.ordered
@@ -30,27 +29,15 @@ shape_of-table-then-taken c = c.remove_by-taken.auto.table ∙ c.loop-i.invarian
 
 pub returns-then-taken : goal.returns-then-taken
 returns-then-taken c =
-    remove_stop
-    c.loop-i.invariant
-    (omega arith) _
-    c.change_at-change.ensures _ _ _ _
-    (sym c.source_of.ensures ∙ c.in-Named.is)
-    c.byte_at-byte.ensures
-    (rw c.posting_of-posting.ensures at
-    c.remove_by-taken.ensures)
-    c.if-taken.true
+    remove_stop c.loop-i.invariant (omega arith) _ c.change_at-change.ensures _ _ _ _
+    (sym c.source_of.ensures ∙ c.in-Named.is) c.byte_at-byte.ensures (rw c.posting_of-posting.ensures at
+    c.remove_by-taken.ensures) c.if-taken.true
 
 pub loop-i-preserved : goal.loop-i-preserved
 loop-i-preserved c =
-    remove_clear
-    c.loop-i.invariant
-    (omega arith) _
-    c.change_at-change.ensures _ _ _ _
-    (sym c.source_of.ensures ∙ c.in-Named.is)
-    c.byte_at-byte.ensures
-    (rw c.posting_of-posting.ensures at
-    c.remove_by-taken.ensures)
-    c.if-taken.false c.remove_by-taken.auto.table
+    remove_clear c.loop-i.invariant (omega arith) _ c.change_at-change.ensures _ _ _ _
+    (sym c.source_of.ensures ∙ c.in-Named.is) c.byte_at-byte.ensures (rw c.posting_of-posting.ensures at
+    c.remove_by-taken.ensures) c.if-taken.false c.remove_by-taken.auto.table
 
 pub shape_of-table : goal.shape_of-table
 shape_of-table c = c.loop-i.invariant.len

@@ -8,9 +8,7 @@ loop-i-init c = record_start _ _
 
 pub loop-i-preserved-in_default : goal.loop-i-preserved-in_default
 loop-i-preserved-in_default c =
-    record_pass c.loop-i.invariant (omega arith) _
-    c.change_at.ensures
-    (sym c.destination_of.ensures ∙ c.in_default.is)
+    record_pass c.loop-i.invariant (omega arith) _ c.change_at.ensures (sym c.destination_of.ensures ∙ c.in_default.is)
 
 pub bounds-record-place : goal.bounds-record-place
 bounds-record-place c =
@@ -23,9 +21,7 @@ overflow_add-place c = let f = c.loop-i.invariant.few in omega arith
 
 pub loop-i-preserved : goal.loop-i-preserved
 loop-i-preserved c =
-    record_turn c.loop-i.invariant (omega arith) _
-    c.change_at.ensures _
-    (sym c.destination_of.ensures ∙ c.in-Named.is)
+    record_turn c.loop-i.invariant (omega arith) _ c.change_at.ensures _ (sym c.destination_of.ensures ∙ c.in-Named.is)
     c.requires.1
 
 pub shape_of-record : goal.shape_of-record

@@ -13,8 +13,7 @@ loop-i-init c = (omega arith, strip_within c.args.strip.now c.if-strip-gt-MOST_B
 
 pub returns-then-strip-i-gt2 : goal.returns-then-strip-i-gt2
 returns-then-strip-i-gt2 c =
-    sym
-    (c.loop-i.invariant.1 ∙ bytes_left c.args.strip.now c.loop-i.i false
+    sym (c.loop-i.invariant.1 ∙ bytes_left c.args.strip.now c.loop-i.i false
     c.loop-i-test.true (lt-leb _ _ c.if-strip-i-gt2.true))
 
 pub loop-i-preserved : goal.loop-i-preserved
@@ -25,5 +24,4 @@ loop-i-preserved c = (
 )
 
 pub returns : goal.returns
-returns c =
-    sym (c.loop-i.invariant.1 ∙ bytes_none c.args.strip.now c.loop-i.i c.loop-i-test.false)
+returns c = sym (c.loop-i.invariant.1 ∙ bytes_none c.args.strip.now c.loop-i.i c.loop-i-test.false)

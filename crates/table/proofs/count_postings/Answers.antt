@@ -21,8 +21,7 @@ pub loop-i-preserved : goal.loop-i-preserved
 loop-i-preserved c =
     let l = c.loop-i.invariant.1.1 in
     let w =
-    bucket_left _ _ c.requires _ c.loop-i-test.true _
-    c.read.ensures c.args.binding
+    bucket_left _ _ c.requires _ c.loop-i-test.true _ c.read.ensures c.args.binding
     c.args.key in
     let h = c.hit-n.ensures in
     (search rules, (omega (arith, one_most _ _ c.read.result h), omega arith))
@@ -31,16 +30,8 @@ pub returns : goal.returns
 returns c =
     let end : c.loop-i.i ≡ c.args.used = omega arith in
     let none : length (rows_under c.args.binding c.args.key (drop c.loop-i.i (postings c.args.used c.args.table.now))) ≡ 0 =
-    ap
-    (λ (n : ℕ). length
-    (rows_under c.args.binding c.args.key
-    (drop n (postings c.args.used c.args.table.now))))
-    end
-    ∙
-    (ap
-    (λ (l : List Posting). length
-    (rows_under c.args.binding c.args.key l))
-    (none_left _ _ c.requires) ∙ none_counted _ _)
+    ap (λ (n : ℕ). length (rows_under c.args.binding c.args.key (drop n (postings c.args.used c.args.table.now)))) end ∙ (ap
+    (λ (l : List Posting). length (rows_under c.args.binding c.args.key l)) (none_left _ _ c.requires) ∙ none_counted _ _)
     in
     let l = c.loop-i.invariant.1.1 in
     omega arith

@@ -9,7 +9,8 @@ use Rattle.table.proofs.count_postings.Given as goal
 abbrev pub invariant-loop-i : goal.invariant-loop-i
 invariant-loop-i l =
     (l.i ≤ l.used) ×
-    ((l.n ≤ l.i) × (counted l.binding l.key (postings l.used l.table) ≡ l.n + counted l.binding l.key (drop l.i (postings l.used l.table))))
+    ((l.n ≤ l.i) × (counted l.binding l.key (postings l.used l.table) ≡ l.n + counted l.binding l.key (drop l.i
+    (postings l.used l.table))))
 
 abbrev pub decreases-loop-i : goal.decreases-loop-i
 decreases-loop-i l = l.used - l.i

@@ -24,22 +24,15 @@ raise-requires c =
 pub write-requires : goal.write-requires
 write-requires c =
     let low = gap_low _ _ _ _
-    c.requires.0
-    (sym c.find.ensures ∙ c.in-Gap.is)
-    in
+    c.requires.0 (sym c.find.ensures ∙ c.in-Gap.is) in
     let r = c.requires.0.room in
     let k = c.raise.auto.table in
     omega arith
 
 pub returns-in-At : goal.returns-in-At
-returns-in-At c =
-    inserted_kept _ _ _ _ c.requires.0
-    (sym c.find.ensures ∙ c.in-At.is)
+returns-in-At c = inserted_kept _ _ _ _ c.requires.0 (sym c.find.ensures ∙ c.in-At.is)
 
 pub returns-in-Gap : goal.returns-in-Gap
 returns-in-Gap c =
-    inserted_carries _ _ _ _
-    c.requires.0
-    _ _
-    (sym c.find.ensures ∙ c.in-Gap.is)
+    inserted_carries _ _ _ _ c.requires.0 _ _ (sym c.find.ensures ∙ c.in-Gap.is)
     (omega arith) c.raise.ensures c.write.ensures

@@ -24,16 +24,12 @@ lower-requires c =
 pub overflow_sub-used : goal.overflow_sub-used
 overflow_sub-used c =
     let low = at_low _ _ _ _
-    c.requires
-    (sym c.find.ensures ∙ c.in-At.is)
-    in omega arith
+    c.requires (sym c.find.ensures ∙ c.in-At.is) in omega arith
 
 pub write-requires : goal.write-requires
 write-requires c =
     let low = at_low _ _ _ _
-    c.requires
-    (sym c.find.ensures ∙ c.in-At.is)
-    in
+    c.requires (sym c.find.ensures ∙ c.in-At.is) in
     let r = c.requires.room in
     let k = c.lower.auto.table in
     omega arith
@@ -41,19 +37,11 @@ write-requires c =
 pub overflow_sub-result : goal.overflow_sub-result
 overflow_sub-result c =
     let low = at_low _ _ _ _
-    c.requires
-    (sym c.find.ensures ∙ c.in-At.is)
-    in omega arith
+    c.requires (sym c.find.ensures ∙ c.in-At.is) in omega arith
 
 pub returns-in-Gap : goal.returns-in-Gap
-returns-in-Gap c =
-    removed_kept _ _ _ _ c.requires
-    (sym c.find.ensures ∙ c.in-Gap.is)
+returns-in-Gap c = removed_kept _ _ _ _ c.requires (sym c.find.ensures ∙ c.in-Gap.is)
 
 pub returns-in-At : goal.returns-in-At
 returns-in-At c =
-    removed_carries _ _ _ _
-    c.requires
-    _ _
-    (sym c.find.ensures ∙ c.in-At.is)
-    c.lower.ensures c.write.ensures
+    removed_carries _ _ _ _ c.requires _ _ (sym c.find.ensures ∙ c.in-At.is) c.lower.ensures c.write.ensures

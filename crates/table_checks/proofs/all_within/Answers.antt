@@ -8,6 +8,4 @@ pub returns-then-used-eq0 : goal.returns-then-used-eq0
 returns-then-used-eq0 c = sym (none_within _ _ _ c.if-used-eq0.true)
 
 pub returns : goal.returns
-returns c =
-    bindings_within _ _ _ c.requires.0 (search rules)
-    c.requires.1 _ c.read-last.ensures
+returns c = bindings_within _ _ _ c.requires.0 (search rules) c.requires.1 _ c.read-last.ensures

@@ -26,20 +26,11 @@ loop-i-preserved c = (
 
 pub returns-else-before : goal.returns-else-before
 returns-else-before c =
-    sym
-    (c.loop-i.invariant.1 ∙ chain_left _ _
-    c.requires _ c.loop-i-test.true
+    sym (c.loop-i.invariant.1 ∙ chain_left _ _ c.requires _ c.loop-i-test.true
     _ c.read-next.ensures _ false (sym c.before-in-loop-i.ensures ∙ c.if-before.false))
 
 pub returns : goal.returns
 returns c =
     let end : c.loop-i.i ≡ c.args.used = omega arith in
-    sym
-    (c.loop-i.invariant.1 ∙
-    (ap
-    (λ (n : ℕ). chain c.loop-i.last
-    (drop n
-    (postings c.args.used
-    c.args.table.now)))
-    end ∙
+    sym (c.loop-i.invariant.1 ∙ (ap (λ (n : ℕ). chain c.loop-i.last (drop n (postings c.args.used c.args.table.now))) end ∙
     (ap (chain c.loop-i.last) (none_left _ _ c.requires) ∙ none_chained _)))

@@ -15,5 +15,4 @@ loop-i-preserved c = (
 
 pub returns : goal.returns
 returns c =
-    sym
-    (c.loop-i.invariant.1 ∙ zeros_end c.args.table.now _ c.loop-i.bits c.loop-i-test.false)
+    sym (c.loop-i.invariant.1 ∙ zeros_end c.args.table.now _ c.loop-i.bits c.loop-i-test.false)

@@ -14,8 +14,7 @@ prepare-inserted-requires c = (well_formed_ordered _ _ c.requires.table_formed, 
 
 pub done-requires : goal.done-requires
 done-requires c =
-    used_fits _ _ _ _ _ c.requires.table_formed c.prepare-inserted.auto.table
-    c.prepare-inserted.ensures.carries
+    used_fits _ _ _ _ _ c.requires.table_formed c.prepare-inserted.auto.table c.prepare-inserted.ensures.carries
 
 pub returns : goal.returns
 returns c =

@@ -25,59 +25,24 @@ remove_sources-cleared-requires c =
 
 pub done-requires : goal.done-requires
 done-requires c =
-    used_fits _ _ _ _ _
-    c.requires.table_formed
-    (c.remove_sources-cleared.auto.table ∙ c.prepare-brought.auto.table)
+    used_fits _ _ _ _ _ c.requires.table_formed (c.remove_sources-cleared.auto.table ∙ c.prepare-brought.auto.table)
     c.remove_sources-cleared.ensures.carries
 
 pub returns-then-is_accepted : goal.returns-then-is_accepted
 returns-then-is_accepted c =
-    ap
-    (λ (r : Done). outcome_of r c.remove_sources-cleared.new.table
-    c.write_record.new.«record»)
-    c.done.ensures
-    ∙ published_in
-    c.args.head
-    c.args.table.now
-    _
-    c.args.record.now
-    (destinations
-    (changes
-    c.args.list.now))
-    _ _ _
-    c.prepare-brought.ensures
-    c.args.strip.now
-    (sources
-    (changes
-    c.args.list.now))
-    _ _ _ _
-    (c.remove_sources-cleared.auto.table ∙ c.prepare-brought.auto.table)
-    (sym c.is_accepted.ensures ∙ c.if-is_accepted.true)
-    c.write_record.ensures
-    c.remove_sources-cleared.ensures
+    ap (λ (r : Done). outcome_of r c.remove_sources-cleared.new.table c.write_record.new.«record») c.done.ensures
+    ∙ published_in c.args.head c.args.table.now _ c.args.record.now (destinations (changes c.args.list.now)) _ _ _
+    c.prepare-brought.ensures c.args.strip.now (sources (changes c.args.list.now)) _ _ _ _
+    (c.remove_sources-cleared.auto.table ∙ c.prepare-brought.auto.table) (sym c.is_accepted.ensures ∙ c.if-is_accepted.true)
+    c.write_record.ensures c.remove_sources-cleared.ensures
 
 pub done-requires-2 : goal.done-requires-2
 done-requires-2 c =
-    used_fits _ _ _ _ _ c.requires.table_formed
-    c.prepare-brought.auto.table c.prepare-brought.ensures.carries
+    used_fits _ _ _ _ _ c.requires.table_formed c.prepare-brought.auto.table c.prepare-brought.ensures.carries
 
 pub returns : goal.returns
 returns c =
-    ap
-    (λ (r : Done). outcome_of r c.prepare-brought.new.table
-    c.args.record.now)
-    c.done-2.ensures
-    ∙ published_not
-    c.args.head
-    c.args.table.now _
-    c.args.record.now
-    (destinations
-    (changes
-    c.args.list.now))
-    _ _ _ c.prepare-brought.ensures
-    c.args.strip.now
-    (sources
-    (changes
-    c.args.list.now))
-    c.prepare-brought.auto.table
+    ap (λ (r : Done). outcome_of r c.prepare-brought.new.table c.args.record.now) c.done-2.ensures ∙ published_not
+    c.args.head c.args.table.now _ c.args.record.now (destinations (changes c.args.list.now))
+    _ _ _ c.prepare-brought.ensures c.args.strip.now (sources (changes c.args.list.now)) c.prepare-brought.auto.table
     (sym c.is_accepted.ensures ∙ c.if-is_accepted.false)

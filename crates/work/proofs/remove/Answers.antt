@@ -17,12 +17,9 @@ remove_sources-cleared-requires c =
 
 pub done-requires : goal.done-requires
 done-requires c =
-    used_fits _ _ _ _ _ c.requires.table_formed
-    c.remove_sources-cleared.auto.table c.remove_sources-cleared.ensures.carries
+    used_fits _ _ _ _ _ c.requires.table_formed c.remove_sources-cleared.auto.table c.remove_sources-cleared.ensures.carries
 
 pub returns : goal.returns
 returns c =
-    ap (λ (r : Done). outcome_of r c.remove_sources-cleared.new.table []) c.done.ensures ∙
-    reached_shown c.args.head
-    c.args.table.now _ []
-    c.remove_sources-cleared.auto.table _ _ _ c.remove_sources-cleared.ensures
+    ap (λ (r : Done). outcome_of r c.remove_sources-cleared.new.table []) c.done.ensures ∙ reached_shown c.args.head
+    c.args.table.now _ [] c.remove_sources-cleared.auto.table _ _ _ c.remove_sources-cleared.ensures

@@ -16,25 +16,15 @@ rollback-back-requires c =
 
 pub done-requires : goal.done-requires
 done-requires c =
-    used_fits _ _ _ _ _ c.requires.table_formed
-    c.rollback-back.auto.table c.rollback-back.ensures.carries
+    used_fits _ _ _ _ _ c.requires.table_formed c.rollback-back.auto.table c.rollback-back.ensures.carries
 
 pub returns : goal.returns
 returns c =
     let answered : Answer → Outcome =
     λ a. outcome_of
-    (done_of c.args.head
-    (record
-    { answer = a; used = c.rollback-back.result.used; read = c.rollback-back.result.read }))
+    (done_of c.args.head (record { answer = a; used = c.rollback-back.result.used; read = c.rollback-back.result.read }))
     c.rollback-back.new.table
     c.args.record.now in
-    ap
-    (λ (r : Done). outcome_of r c.rollback-back.new.table
-    c.args.record.now)
-    c.done.ensures
-    ∙
-    (ap answered c.settle.ensures ∙ undone_shown
-    c.args.head
-    c.args.table.now _
-    c.args.record.now
+    ap (λ (r : Done). outcome_of r c.rollback-back.new.table c.args.record.now) c.done.ensures ∙
+    (ap answered c.settle.ensures ∙ undone_shown c.args.head c.args.table.now _ c.args.record.now
     c.rollback-back.auto.table _ _ _ c.rollback-back.ensures)
