@@ -3,10 +3,9 @@
 -- try a lane inside it. Past its end every byte is 0: there one round clears all lanes, and the next says yes.
 use Prim.Native.Nat.{ℕ, zero, suc, ◌+◌, ◌-◌, ◌/◌, ◌≤◌, ◌<◌}
 use native.Mathlib.Omega.{arith}
-use mathlib.Core.Path.{◌≡◌, refl, ap}
+use mathlib.Core.Path.{◌≡◌, refl}
 use mathlib.Core.List.{List}
 use mathlib.Core.Bool.{Bool, true, false}
-use mathlib.Core.Logic.{◌⊎◌, inl, inr, ⊎_elim, ◌↔◌}
 use lib.ListN.{length}
 use lib.Dec.{leb}
 use borrow.Author.Tests.{leb-true, leb-false}
@@ -18,16 +17,15 @@ use Rattle.lane_rules.specs.declared.Verdict.{Verdict}
 use Rattle.lane_rules.specs.Answers.{told_of, is_accepted}
 use Rattle.lane_rules.specs.Passes.{cached_pass}
 use Rattle.lane_rules.specs.Rounds.{round, rounds, detaching}
-use Rattle.lane_rules.specs.Calls.{entry_checks, ended, unless_refused, detach_of}
+use Rattle.lane_rules.specs.Calls.{entry_checks, detach_of}
 use Rattle.lane_laws.specs.Clauses.{AllBelow, is_refusal}
-use Rattle.lane_laws.specs.Ends.{detach_work, NoErrors, Clean, Ends, yes, error, spent, MetNoError, HadRounds, Retired}
-use Rattle.lane_laws.specs.Ends.{rounds_needed}
-use Rattle.lane_laws.proofs.Cases.{by_said_lem, by_both, other_number, refusal_not_accepted}
+use Rattle.lane_laws.specs.Ends.{HadRounds}
+use Rattle.lane_laws.proofs.Cases.{by_said_lem, by_both, other_number}
 use Rattle.lane_laws.proofs.Reading.{round_no_reads}
 use Rattle.lane_laws.proofs.Entry.{detach_passes}
 use Rattle.lane_laws.proofs.Frames.{below_inside, cached_leaves, round_leaves}
 use Rattle.lane_laws.proofs.Sweep.{round_no, last_round}
-use Rattle.lane_laws.proofs.Exactly.{detach_refused, detach_ends, accepted_retired, offset_fault, else_clean, budget_lent}
+use Rattle.lane_laws.proofs.Exactly.{detach_refused}
 
 -- an answer with another number is not 25
 pub had_rounds : (a : Answer) → ((told_of a).answer ≡ 25 → ⊥) → HadRounds a

@@ -1,6 +1,6 @@
 -- With two rounds more than half the strip's bytes, a detach that meets no storage error ends retired; what rounds are told; and 25
 -- and 0, each exactly where it comes.
-use Prim.Native.Nat.{ℕ, zero, suc, ◌+◌, ◌-◌, ◌/◌, ◌≤◌, ◌<◌}
+use Prim.Native.Nat.{ℕ, ◌+◌, ◌-◌, ◌/◌, ◌≤◌, ◌<◌}
 use native.Mathlib.Omega.{arith}
 use mathlib.Core.Path.{◌≡◌, refl, ap}
 use mathlib.Core.List.{List}
@@ -11,21 +11,13 @@ use lib.Dec.{leb}
 use borrow.Author.Tests.{leb-true, leb-false}
 use Rattle.booleans.proofs.Tests.{clash}
 use Rattle.lane_rules.specs.declared.View.{View}
-use Rattle.lane_rules.specs.declared.Ended.{Ended}
 use Rattle.lane_rules.specs.declared.Answer.{Answer}
 use Rattle.lane_rules.specs.declared.Verdict.{Verdict}
 use Rattle.lane_rules.specs.Answers.{told_of, is_accepted}
-use Rattle.lane_rules.specs.Passes.{cached_pass}
-use Rattle.lane_rules.specs.Rounds.{round, rounds, detaching}
 use Rattle.lane_rules.specs.Calls.{entry_checks, ended, unless_refused, detach_of}
-use Rattle.lane_laws.specs.Clauses.{AllBelow, is_refusal}
 use Rattle.lane_laws.specs.Ends.{detach_work, NoErrors, Clean, Ends, yes, error, spent, MetNoError, HadRounds, Retired}
 use Rattle.lane_laws.specs.Ends.{rounds_needed}
-use Rattle.lane_laws.proofs.Cases.{by_said_lem, by_both, other_number, refusal_not_accepted}
-use Rattle.lane_laws.proofs.Reading.{round_no_reads}
-use Rattle.lane_laws.proofs.Entry.{detach_passes}
-use Rattle.lane_laws.proofs.Frames.{below_inside, cached_leaves, round_leaves}
-use Rattle.lane_laws.proofs.Sweep.{round_no, last_round}
+use Rattle.lane_laws.proofs.Cases.{refusal_not_accepted}
 use Rattle.lane_laws.proofs.Exactly.{detach_refused, detach_ends, accepted_retired, offset_fault, else_clean, budget_lent}
 use Rattle.lane_laws.proofs.Enough.{accepted_had_rounds, had_rounds, detaching_more, detaching_short, refused_otherwise, rounds_suffice}
 
