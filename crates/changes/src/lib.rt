@@ -25,6 +25,7 @@ pub fn count_of(list: &[u32]) -> usize
 }
 
 // One change of a list.
+#[tactic(auto, using(crate::proofs::Walk::changes_length))]
 pub fn change_at(list: &[u32], i: usize) -> Change
     requires { i < length (changes list.now) }
     ensures { result ≡ get_or (changes list.now) i no_change }

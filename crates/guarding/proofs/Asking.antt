@@ -21,10 +21,8 @@ use Rattle.rules.specs.Orders.{changes, guards, proper_changes, proper_guards, p
 use Rattle.rules.specs.Checks.{key_held, guard_check, order_checks}
 use Rattle.checks.specs.Guarding.{first_unheld, bindings_from}
 use Rattle.checks.proofs.Guarding.{unheld_known}
-use Rattle.booleans.proofs.Tests.{clash}
 use Rattle.laws.proofs.Checks.{opened, order_passed}
 use Rattle.publish_core.proofs.Publishing.{order_proper}
-use Rattle.guarding.specs.declared.Wanted.{Wanted}
 use Rattle.guarding.specs.Asking.{flat, wanted_of, wanted_at, wanted_held, keys_asked, unheld_from, unheld_place}
 
 -- the flat numbers mean the guards
@@ -41,15 +39,6 @@ flat_even (g ∷ gs) = let ih = flat_even gs in omega arith
 pub pairs_known : (gs : List Guard) → leb (length gs) most_guards ≡ proper_guards (flat gs)
 unfolding proper_guards
 pairs_known gs = rw (eq-eqb (length (flat gs) % 2) 0 (flat_even gs), flat_guards gs)
-
--- a test that is true holds, and one that is false does not
-pub true_holds : (b : Bool) → b ≡ true → T b
-true_holds true e = tt
-true_holds false e = absurd (clash false e refl)
-
-pub false_fails : (b : Bool) → b ≡ false → T (not b)
-false_fails true e = absurd (clash true refl e)
-false_fails false e = tt
 
 -- a choice at a test that holds, and at one that does not
 or_true : (x y : Bool) → T x → (x || y) ≡ true
@@ -87,14 +76,6 @@ module _ (gs : List Guard) (binding key i : ℕ) (d : Guard) where
 pub held_nowhere : (gs : List Guard) (binding key i : ℕ) → length gs ≤ i → held binding key (drop i gs) ≡ false
 unfolding held
 held_nowhere gs binding key i l = ap (held binding key) (drop_of_length-le gs l)
-
--- a key that is named, and none
-module _ (gs : List Guard) (w : Wanted) where
-  pub named_held : T w.named → held w.binding w.key gs ≡ wanted_held gs w
-  named_held t = sym (cond_true w.named (held w.binding w.key gs) true t)
-
-  pub none_held : T (not w.named) → true ≡ wanted_held gs w
-  none_held t = sym (cond_false w.named (held w.binding w.key gs) true t)
 
 -- the key that is not held is looked for from a place on, n places in all
 module _ (gs : List Guard) (cs : List Change) (place n : ℕ) where

@@ -1,7 +1,8 @@
 use Rattle.std.proofs.Common.{◌≡◌, sym, ◌∙◌, ap, arith}
+use Rattle.std.proofs.lemmas.Float.{T_from_true, T_from_false}
 use Rattle.rules.specs.Orders.{changes}
 use Rattle.guarding.specs.Asking.{wanted_held}
-use Rattle.guarding.proofs.Asking.{asked_within, true_holds, false_fails, unheld_further, unheld_here, unheld_nowhere}
+use Rattle.guarding.proofs.Asking.{asked_within, unheld_further, unheld_here, unheld_nowhere}
 use Rattle.entry.proofs.first_unheld.Goals as goal
 
 pub wanted_at-wanted-requires : goal.wanted_at-wanted-requires
@@ -14,7 +15,7 @@ loop-place-preserved c =
     c.if-key_held.true in (
       omega arith,
       c.loop-place.invariant.1 ∙ unheld_further c.args.guards.now (changes c.args.list.now) c.loop-place.place _
-          c.loop-place-test.true (true_holds _ held),
+          c.loop-place-test.true (T_from_true _ held),
     )
 
 pub returns-else-key_held : goal.returns-else-key_held
@@ -22,7 +23,7 @@ returns-else-key_held c =
     let unheld = sym (ap (wanted_held c.args.guards.now) c.wanted_at-wanted.ensures) ∙ sym c.key_held.ensures ∙
     c.if-key_held.false in
     sym (c.loop-place.invariant.1 ∙ unheld_here c.args.guards.now (changes c.args.list.now) c.loop-place.place _
-    c.loop-place-test.true (false_fails _ unheld))
+    c.loop-place-test.true (T_from_false _ unheld))
 
 pub returns : goal.returns
 returns c =

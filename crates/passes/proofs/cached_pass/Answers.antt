@@ -1,8 +1,6 @@
-use Prim.Native.Nat.{ℕ, ◌-◌}
 use native.Mathlib.Omega.{arith}
-use mathlib.Core.Path.{sym, ap, ◌∙◌}
+use mathlib.Core.Path.{sym, ◌∙◌}
 use borrow.Author.Rules.{rules}
-use Rattle.lane_rules.specs.Steps.{compared}
 use Rattle.passes.proofs.Caching.{caching_start, caching_outside, caching_end, caching_yes, caching_stop}
 use Rattle.passes.proofs.cached_pass.Goals as goal
 
@@ -18,17 +16,17 @@ overflow_add-read c = let few = c.loop-lane.invariant.few in let low = c.loop-la
 
 pub returns-then-not-is_yes : goal.returns-then-not-is_yes
 returns-then-not-is_yes c =
-    sym
-    (caching_stop c.loop-lane.invariant c.compare-tried.result c.loop-lane-test.true (sym c.lane_in.ensures ∙
-    c.if-not-lane_in.false)
-    (c.compare-tried.ensures ∙ ap (λ (byte : ℕ). compared byte (c.loop-lane.lane - 1) c.loop-lane.remain)
-    c.byte_at.ensures) (sym c.is_yes.ensures ∙ c.if-not-is_yes.true))
+    let inside = sym c.lane_in.ensures ∙ c.if-not-lane_in.false in
+    let found = rw c.byte_at.ensures at c.compare-tried.ensures in
+    sym (caching_stop c.loop-lane.invariant c.compare-tried.result c.loop-lane-test.true inside found
+    (sym c.is_yes.ensures ∙ c.if-not-is_yes.true))
 
 pub loop-lane-preserved : goal.loop-lane-preserved
 loop-lane-preserved c =
-    caching_yes c.loop-lane.invariant c.compare-tried.result c.loop-lane-test.true (sym c.lane_in.ensures ∙ c.if-not-lane_in.false)
-    (c.compare-tried.ensures ∙ ap (λ (byte : ℕ). compared byte (c.loop-lane.lane - 1) c.loop-lane.remain)
-    c.byte_at.ensures) (sym c.is_yes.ensures ∙ c.if-not-is_yes.false)
+    let inside = sym c.lane_in.ensures ∙ c.if-not-lane_in.false in
+    let found = rw c.byte_at.ensures at c.compare-tried.ensures in
+    caching_yes c.loop-lane.invariant c.compare-tried.result c.loop-lane-test.true inside found
+    (sym c.is_yes.ensures ∙ c.if-not-is_yes.false)
 
 pub returns : goal.returns
 returns c = sym (caching_end c.loop-lane.invariant (omega arith))
