@@ -9,8 +9,7 @@ use case_text::lists::{List, ListError};
 use case_text::writing::Listed;
 use case_text::{cases, lists};
 use std::alloc::Global;
-use std::io;
-use std::io::Write;
+use std::io::{self, Write};
 
 /// A bucket call.
 #[derive(Clone, Copy)]
@@ -63,17 +62,17 @@ impl Lists {
     }
 
     /// Runs the sorting engine, and writes what comes of it.
-    fn sort<W: Write>(&self, alloc: Global, out: &mut W) -> io::Result<()> {
-        let mut output = self.output.numbers.as_slice().to_vec(alloc)?;
+    fn sort<W: Write>(&self, out: &mut W) -> io::Result<()> {
+        let mut output = self.output.numbers.clone()?;
         let [count] = self.count;
         let answer = buckets::canonical_buckets_sort(&self.input.numbers, count, &mut output);
         write_done(out, answer, &output)
     }
 
     /// Runs the bitmap engine, and writes what comes of it.
-    fn bitmap<W: Write>(&self, alloc: Global, out: &mut W) -> io::Result<()> {
-        let mut output = self.output.numbers.as_slice().to_vec(alloc)?;
-        let mut scratch = self.scratch.numbers.as_slice().to_vec(alloc)?;
+    fn bitmap<W: Write>(&self, out: &mut W) -> io::Result<()> {
+        let mut output = self.output.numbers.clone()?;
+        let mut scratch = self.scratch.numbers.clone()?;
         let [count] = self.count;
         let answer = buckets::canonical_buckets_bitmap(
             &self.input.numbers,
@@ -119,10 +118,10 @@ impl Cases for Lists {
         }
     }
 
-    fn run<W: Write>(&self, alloc: Global, call: Call, out: &mut W) -> io::Result<()> {
+    fn run<W: Write>(&self, call: Call, out: &mut W) -> io::Result<()> {
         match call {
-            Call::Sort => self.sort(alloc, out),
-            Call::Bitmap => self.bitmap(alloc, out),
+            Call::Sort => self.sort(out),
+            Call::Bitmap => self.bitmap(out),
             Call::Precedes => self.precedes(out),
         }
     }

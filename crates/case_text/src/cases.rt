@@ -2,8 +2,7 @@
 use crate::items;
 use crate::lists::ListError;
 use std::alloc::Global;
-use std::io;
-use std::io::{BufWriter, Read, Write};
+use std::io::{self, BufWriter, Read, Write};
 
 /// How many bytes of its input a program reads.
 const LIMIT: u64 = 65536;
@@ -19,39 +18,26 @@ pub trait Cases {
     fn set(&mut self, alloc: Global, name: &[u8], items: &[u8]) -> Result<(), ListError>;
 
     /// Runs a call on copies of the lists, so that the next one finds them as they were set, and writes what comes of it.
-    fn run<W: Write>(&self, alloc: Global, call: Self::Call, out: &mut W) -> io::Result<()>;
+    fn run<W: Write>(&self, call: Self::Call, out: &mut W) -> io::Result<()>;
 }
 
 /// Runs the case of a line, and writes the line and what comes of it.
 fn run_case<C: Cases, W: Write>(
     cases: &C,
-    alloc: Global,
     call: C::Call,
     line: &[u8],
     out: &mut W,
 ) -> io::Result<()> {
     out.write_all(line)?;
-    cases.run(alloc, call, out)?;
+    cases.run(call, out)?;
     out.write_all(b"\n")
 }
 
-/// Sets the list that a line names, or says that the line is malformed.
-fn set_list<C: Cases, W: Write>(
-    cases: &mut C,
-    alloc: Global,
-    line: &[u8],
-    out: &mut W,
-) -> io::Result<()> {
-    let (name, items) = items::cut(line, b' ');
-    match cases.set(alloc, name, items) {
-        Ok(()) => Ok(()),
-        Err(ListError::Memory(error)) => Err(error.into()),
-        Err(ListError::Malformed) => {
-            out.write_all(b"malformed: ")?;
-            out.write_all(line)?;
-            out.write_all(b"\n")
-        }
-    }
+/// Says of a line that it is malformed.
+fn write_malformed<W: Write>(line: &[u8], out: &mut W) -> io::Result<()> {
+    out.write_all(b"malformed: ")?;
+    out.write_all(line)?;
+    out.write_all(b"\n")
 }
 
 /// Does what one line says: nothing if it is empty or a comment.
@@ -64,20 +50,25 @@ fn run_line<C: Cases, W: Write>(
     if line.is_empty() || line.starts_with(b"#") {
         return Ok(());
     }
-    let (name, _) = items::cut(line, b' ');
-    match C::call(name) {
-        Some(call) => run_case(cases, alloc, call, line, out),
-        None => set_list(cases, alloc, line, out),
+    let (name, items) = items::cut(line, |b| *b == b' ');
+    if let Some(call) = C::call(name) {
+        return run_case(cases, call, line, out);
+    }
+    match cases.set(alloc, name, items) {
+        Ok(()) => Ok(()),
+        Err(ListError::Memory(error)) => Err(error.into()),
+        Err(ListError::Malformed) => write_malformed(line, out),
     }
 }
 
 /// Does what each line of the input says, and writes what comes of the cases.
 pub fn run<R: Input + Print + AllocGlobal, C: Cases>(rt: &R, cases: &mut C) -> io::Result<()> {
-    let mut text = Vec::new(rt.alloc());
+    let alloc = rt.alloc();
+    let mut text = Vec::new(alloc);
     rt.reader().take(LIMIT).read_to_end(&mut text)?;
-    let mut out = BufWriter::new(rt.alloc(), io::writer(rt))?;
+    let mut out = BufWriter::new(alloc, io::writer(rt))?;
     for line in text.split(|b| *b == b'\n') {
-        run_line(cases, rt.alloc(), line, &mut out)?;
+        run_line(cases, alloc, line, &mut out)?;
     }
     out.flush()
 }

@@ -10,11 +10,12 @@ pub struct Item<'a> {
     pub group: &'a [u8],
 }
 
-/// The text before the first such byte, and the text from that byte on; all and nothing where no such byte stands.
-pub fn cut(text: &[u8], byte: u8) -> (&[u8], &[u8])
+/// The text before the first byte that passes a test, and the text from that byte on; all and nothing where none passes.
+pub fn cut<F: FnMut(&u8) -> bool + Drop>(text: &[u8], test: F) -> (&[u8], &[u8])
+    requires { F.IsAlwaysCallable test }
     ensures { length result.0.now + length result.1.now ≡ length text.now }
 {
-    let end = text.iter().position(|b| *b == byte).unwrap_or(text.len());
+    let end = text.iter().position(test).unwrap_or(text.len());
     text.split_at(end)
 }
 
@@ -49,7 +50,7 @@ fn checked<'a>(times: u32, group: &'a [u8], behind: &'a [u8]) -> Option<(Item<'a
 fn bracketed(times: u32, text: &[u8]) -> Option<(Item<'_>, &[u8])>
     ensures { IfSome result (λ (item, behind). length behind.now < length text.now) }
 {
-    let (group, bracket) = cut(text, b')');
+    let (group, bracket) = cut(text, |b| *b == b')');
     let (_, behind) = bracket.split_first()?;
     if behind.first().is_some_and(|b| *b != b' ') {
         return None;
@@ -61,7 +62,7 @@ fn bracketed(times: u32, text: &[u8]) -> Option<(Item<'_>, &[u8])>
 fn plain(times: u32, text: &[u8]) -> Option<(Item<'_>, &[u8])>
     ensures { IfSome result (λ (item, behind). length behind.now < length text.now) }
 {
-    let (group, behind) = cut(text, b' ');
+    let (group, behind) = cut(text, |b| *b == b' ');
     checked(times, group, behind)
 }
 
@@ -69,11 +70,7 @@ fn plain(times: u32, text: &[u8]) -> Option<(Item<'_>, &[u8])>
 pub fn first_item(text: &[u8]) -> Option<(Item<'_>, &[u8])>
     ensures { IfSome result (λ (item, behind). length behind.now < length text.now) }
 {
-    let digits = text
-        .iter()
-        .position(|b| !b.is_ascii_digit())
-        .unwrap_or(text.len());
-    let (times, after) = text.split_at(digits);
+    let (times, after) = cut(text, |b| !b.is_ascii_digit());
     let Some(said) = after.strip_prefix(b"*") else {
         return plain(1, text);
     };

@@ -1,8 +1,8 @@
 // The lists that the lines of a text set.
+ghost use Rattle.case_text.specs.declared.lists.ListError.TheVariants.{Memory};
 ghost use Rattle.std.specs.Prelude.{◌≡◌, ◌≤◌, [], replicate, vec_len, OnErr};
 
-use crate::items;
-use crate::items::Item;
+use crate::items::{self, Item};
 use crate::numbers::Number;
 use std::alloc::{AllocError, AllocFailed, Global};
 
@@ -16,6 +16,8 @@ pub enum ListError {
 }
 
 impl From<AllocError> for ListError {
+    ghost from_gives = { λ error made. made ≡ Memory error };
+
     fn from(error: AllocError) -> ListError {
         ListError::Memory(error)
     }
@@ -112,4 +114,47 @@ pub fn set_array<const N: usize>(
     }
     array.copy_from_slice(&list.numbers);
     Ok(())
+}
+
+#[cfg(test)]
+mod tests {
+    use super::*;
+    use std::test::Fail;
+
+    #[test]
+    fn sets_what_a_line_says(rt: HostRuntime) -> Result<(), Fail> {
+        let mut list: List<u32, 8> = List::new(rt.alloc());
+        assert!(rt; list.set(b" 05 2*7  2*(3 4+) 9+").is_ok());
+        assert_eq!(rt;
+            list.numbers.as_slice(),
+            [5, 7, 7, 3, 4, 3, 5, 9].as_slice()
+        );
+        assert!(rt; list.set(b" 4294967295+ 0*(6 x) 7*0").is_ok());
+        assert_eq!(rt;
+            list.numbers.as_slice(),
+            [4294967295, 0, 0, 0, 0, 0, 0, 0].as_slice()
+        );
+        assert!(rt; matches!(list.set(b" 9*1"), Err(ListError::Malformed)));
+        assert!(rt; list.numbers.is_empty());
+        Ok(())
+    }
+
+    #[test]
+    fn sets_bytes_and_arrays(rt: HostRuntime) -> Result<(), Fail> {
+        let mut strip: List<u8, 2> = List::new(rt.alloc());
+        assert!(rt; strip.set(b" 255 0").is_ok());
+        assert_eq!(rt; strip.numbers.as_slice(), [255, 0].as_slice());
+        assert!(rt; matches!(strip.set(b" 256"), Err(ListError::Malformed)));
+        let mut array = [7; 3];
+        assert!(rt; set_array(rt.alloc(), &mut array, b" 3*(1+)").is_ok());
+        assert_eq!(rt; array, [1, 2, 3]);
+        assert!(rt;
+            matches!(
+                set_array(rt.alloc(), &mut array, b" 1 2"),
+                Err(ListError::Malformed)
+            )
+        );
+        assert_eq!(rt; array, [0, 0, 0]);
+        Ok(())
+    }
 }

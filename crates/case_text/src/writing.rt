@@ -38,3 +38,19 @@ impl fmt::Display for Listed<'_> {
         Ok(())
     }
 }
+
+#[cfg(test)]
+mod tests {
+    use super::*;
+    use std::test::Fail;
+
+    #[test]
+    fn writes_short_and_long_lists(rt: HostRuntime) -> Result<(), Fail> {
+        let alloc = rt.alloc();
+        let short = format!(in alloc; "{}{}", Listed(&[]), Listed(&[3, 3, 0, 3]))?;
+        assert_eq!(rt; short.as_str(), " none 2*3 0 3");
+        let long = format!(in alloc; "{}{}", Listed(&[2; 64]), Listed(&[2; 65]))?;
+        assert_eq!(rt; long.as_str(), " 64*2 65 numbers, sum 130, sums 4290");
+        Ok(())
+    }
+}

@@ -9,8 +9,7 @@ use case_text::writing::Listed;
 use case_text::{cases, lists};
 use rules::{Done, Head};
 use std::alloc::Global;
-use std::io;
-use std::io::Write;
+use std::io::{self, Write};
 
 /// A posting call.
 #[derive(Clone, Copy, PartialEq, Eq)]
@@ -148,9 +147,9 @@ impl Cases for Lists {
         }
     }
 
-    fn run<W: Write>(&self, alloc: Global, call: Call, out: &mut W) -> io::Result<()> {
-        let mut table = self.table.numbers.as_slice().to_vec(alloc)?;
-        let mut record = self.record.numbers.as_slice().to_vec(alloc)?;
+    fn run<W: Write>(&self, call: Call, out: &mut W) -> io::Result<()> {
+        let mut table = self.table.numbers.clone()?;
+        let mut record = self.record.numbers.clone()?;
         let done = self.run_on(call, &mut table, &mut record);
         write_answer(out, done)?;
         write_state(out, call, done.head, &table, &record)

@@ -8,8 +8,7 @@ use case_text::lists::{List, ListError};
 use case_text::{cases, lists};
 use lane_rules::View;
 use std::alloc::Global;
-use std::io;
-use std::io::Write;
+use std::io::{self, Write};
 
 /// A lane call.
 #[derive(Clone, Copy)]
@@ -74,7 +73,7 @@ impl Cases for Lists {
         }
     }
 
-    fn run<W: Write>(&self, _alloc: Global, call: Call, out: &mut W) -> io::Result<()> {
+    fn run<W: Write>(&self, call: Call, out: &mut W) -> io::Result<()> {
         let (view, contents, strip) = (self.view(), &self.contents.numbers, &self.strip.numbers);
         let [rounds] = self.rounds;
         let done = match call {

@@ -18,14 +18,39 @@ struct Order<'a> {
     strip: &'a [u8],
 }
 
-/// An order of no changes, on a clean head and a table that has two postings and room for two more.
-const USUAL: Order<'static> = Order {
-    letter: 'N',
-    poisoned: 0,
-    table: &[0, 5, 1, 0, 5, 2, 0, 0, 0, 0, 0, 0],
-    changes: &[],
-    strip: &[],
-};
+impl<'a> Order<'a> {
+    /// An order on a clean head, and on a table that has two postings and room for two more.
+    fn new(letter: char, changes: &'a [u32]) -> Self {
+        Order {
+            letter,
+            poisoned: 0,
+            table: &[0, 5, 1, 0, 5, 2, 0, 0, 0, 0, 0, 0],
+            changes,
+            strip: &[],
+        }
+    }
+
+    /// The order with a strip.
+    fn strip(self, strip: &'a [u8]) -> Self {
+        Order { strip, ..self }
+    }
+
+    /// The order on a poisoned head.
+    fn poisoned(self) -> Self {
+        Order {
+            poisoned: 1,
+            ..self
+        }
+    }
+
+    /// The order on the table cut to its two postings.
+    fn cut(self) -> Self {
+        Order {
+            table: &[0, 5, 1, 0, 5, 2],
+            ..self
+        }
+    }
+}
 
 /// Publishes an order on a copy of its table, and writes its line.
 fn run<R: Print + AllocGlobal>(rt: &R, order: Order<'_>) -> io::Result<()> {
@@ -56,79 +81,20 @@ fn main(rt: HostRuntime) -> io::Result<()> {
     let three = [1, 7, 0, 0, 1, 9, 1, 8, 0, 0, 1, 9, 1, 9, 0, 0, 1, 9];
     let both = [0, 1, 1, 5, 1, 6, 0, 2, 1, 5, 1, 6];
     let orders = [
-        Order {
-            letter: 'A',
-            changes: &moved,
-            ..USUAL
-        },
-        Order {
-            letter: 'B',
-            changes: &[0, 1, 1, 5, 0, 0],
-            ..USUAL
-        },
-        Order {
-            letter: 'C',
-            changes: &three,
-            ..USUAL
-        },
-        Order {
-            letter: 'D',
-            changes: &three,
-            strip: &[0, 0, 0, 1, 0],
-            ..USUAL
-        },
-        Order {
-            letter: 'E',
-            changes: &three,
-            strip: &[0, 0, 0, 2, 0],
-            ..USUAL
-        },
-        Order {
-            letter: 'F',
-            changes: &both,
-            strip: &[0, 0, 1],
-            ..USUAL
-        },
-        Order {
-            letter: 'G',
-            changes: &both,
-            strip: &[0, 0, 0, 2],
-            ..USUAL
-        },
-        Order {
-            letter: 'H',
-            changes: &moved,
-            strip: &[1],
-            ..USUAL
-        },
-        Order {
-            letter: 'I',
-            changes: &[0, 1, 0, 0, 1, 6, 0, 1, 0, 0, 1, 6],
-            ..USUAL
-        },
-        Order {
-            letter: 'J',
-            changes: &[0, 2, 0, 0, 1, 5],
-            ..USUAL
-        },
-        Order {
-            letter: 'K',
-            changes: &[0, 3, 0, 0, 1, 6, 0, 3, 1, 6, 0, 0],
-            ..USUAL
-        },
-        Order {
-            letter: 'L',
-            changes: &moved,
-            poisoned: 1,
-            ..USUAL
-        },
-        Order {
-            letter: 'M',
-            changes: &moved,
-            table: &[0, 5, 1, 0, 5, 2],
-            ..USUAL
-        },
-        USUAL,
+        Order::new('A', &moved),
+        Order::new('B', &[0, 1, 1, 5, 0, 0]),
+        Order::new('C', &three),
+        Order::new('D', &three).strip(&[0, 0, 0, 1, 0]),
+        Order::new('E', &three).strip(&[0, 0, 0, 2, 0]),
+        Order::new('F', &both).strip(&[0, 0, 1]),
+        Order::new('G', &both).strip(&[0, 0, 0, 2]),
+        Order::new('H', &moved).strip(&[1]),
+        Order::new('I', &[0, 1, 0, 0, 1, 6, 0, 1, 0, 0, 1, 6]),
+        Order::new('J', &[0, 2, 0, 0, 1, 5]),
+        Order::new('K', &[0, 3, 0, 0, 1, 6, 0, 3, 1, 6, 0, 0]),
+        Order::new('L', &moved).poisoned(),
+        Order::new('M', &moved).cut(),
+        Order::new('N', &[]),
     ];
     for order in orders {
         run(&rt, order)?;
