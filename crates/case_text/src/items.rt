@@ -1,5 +1,5 @@
 // Reads the items of a list's line, which are `v`, `n*v` and `n*(v w+ ..)`.
-ghost use Rattle.std.specs.Prelude.{◌+◌, ◌≡◌, ◌<◌, ◌≤◌, length, IfSome, IsSome};
+ghost use Rattle.std.specs.Prelude.{◌+◌, ◌++◌, ◌≡◌, ◌<◌, ◌≤◌, length, IfSome, IsSome};
 
 use std::str;
 
@@ -13,7 +13,8 @@ pub struct Item<'a> {
 /// The text before the first byte that passes a test, and the text from that byte on; all and nothing where none passes.
 pub fn cut<F: FnMut(&u8) -> bool + Drop>(text: &[u8], test: F) -> (&[u8], &[u8])
     requires { F.IsAlwaysCallable test }
-    ensures { length result.0.now + length result.1.now ≡ length text.now }
+    ensures parts { text.now ≡ result.0.now ++ result.1.now }
+    ensures lengths { length result.0.now + length result.1.now ≡ length text.now }
 {
     let end = text.iter().position(test).unwrap_or(text.len());
     text.split_at(end)

@@ -1,6 +1,6 @@
 // The lists that the lines of a text set.
 ghost use Rattle.case_text.specs.declared.lists.ListError.TheVariants.{Memory};
-ghost use Rattle.std.specs.Prelude.{◌≡◌, ◌≤◌, [], replicate, vec_len, OnErr};
+ghost use Rattle.std.specs.Prelude.{◌≡◌, ◌≤◌, [], alloc_error, replicate, vec_len, OnErr};
 
 use crate::items::{self, Item};
 use crate::numbers::Number;
@@ -24,6 +24,8 @@ impl From<AllocError> for ListError {
 }
 
 impl<T: Drop> From<AllocFailed<T>> for ListError {
+    ghost from_gives = { λ _ made. made ≡ Memory alloc_error };
+
     fn from(error: AllocFailed<T>) -> ListError {
         ListError::Memory(AllocError::from(error))
     }
