@@ -29,7 +29,7 @@ const PRECEDES: usize = 8;
 
 // Writes the answer, what it names, and what the call left in the output.
 fn write_done(answer: Answer, output: &[u32]) {
-    let told = buckets::tell(answer);
+    let told = bucket_rules::Told::from(answer);
     io::write_all(1, b": answer");
     writing::write_number(told.answer);
     io::write_all(1, b" named");
