@@ -39,7 +39,7 @@ fn joined([high, low]: [u32; 2]) -> u64 {
 
 /// Writes the answer, what it names, and what the call left in the output.
 fn write_done<W: Write>(out: &mut W, answer: Answer, output: &[u32]) -> io::Result<()> {
-    let told = buckets::tell(answer);
+    let told = bucket_rules::Told::from(answer);
     write!(
         out,
         ": answer {} named {}; output{}",

@@ -14,7 +14,7 @@ use yes_or_no::number_of;
 fn bucket_numbers(answer: bucket_rules::Answer) -> Told
     ensures { result ≡ three_numbers (told_of answer) }
 {
-    let numbers = buckets::tell(answer);
+    let numbers = bucket_rules::Told::from(answer);
     Told {
         answer: numbers.answer,
         named: numbers.named,

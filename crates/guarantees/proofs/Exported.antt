@@ -30,7 +30,6 @@ use Rattle.lane_rules.specs.declared.Done as lane_done
 use Rattle.lane_rules.specs.Answers as lane_answers
 use Rattle.lane_rules.specs.Calls.{cached_of, refreshed_of, detach_of}
 use Rattle.lanes.specs.Promises as lane
-use Rattle.bucket_rules.specs.declared.Answer as bucket_answer
 use Rattle.bucket_rules.specs.Answers as bucket_answers
 use Rattle.bucket_rules.specs.Calls as bucket_calls
 use Rattle.bucket_rules.specs.Calls.{sort_of, bitmap_of}
@@ -144,7 +143,7 @@ module _ (v : View) (strip : List ℕ) (r : Detached) where
 -- a bucket call, whose two numbers cross as three
 bucket_behind :
     (r : Told) (o s : List ℕ) (x : bucket_calls.Outcome) → bucket_seen r o s ≡ with_other (bucket.seen x) →
-    Behind (λ (a : bucket_answer.Answer). three_numbers (bucket_answers.told_of a)) r (λ (a : bucket_answer.Answer). bucket.seen (bucket.outcome_of a o s) ≡ bucket.seen x)
+    Behind (λ (a : bucket_answers.Answer). three_numbers (bucket_answers.told_of a)) r (λ (a : bucket_answers.Answer). bucket.seen (bucket.outcome_of a o s) ≡ bucket.seen x)
 bucket_behind r o s x e =
     record {
       answer = x.answer;
@@ -161,13 +160,13 @@ bucket_behind r o s x e =
 -- asdrifen_canonical_buckets_sort
 pub exported_sort :
     (input : List ℕ) (count : ℕ) (output : List ℕ) (r : Told) (o : List ℕ) → SortPromise input count output r o →
-    Behind (λ (a : bucket_answer.Answer). three_numbers (bucket_answers.told_of a)) r (λ (a : bucket_answer.Answer). bucket.SortPromise input count output a o)
+    Behind (λ (a : bucket_answers.Answer). three_numbers (bucket_answers.told_of a)) r (λ (a : bucket_answers.Answer). bucket.SortPromise input count output a o)
 exported_sort input count output r o e = bucket_behind r o [] (sort_of input count output) e
 
 -- asdrifen_canonical_buckets_bitmap
 pub exported_bitmap :
     (input : List ℕ) (count : ℕ) (output scratch : List ℕ) (r : Told) (o s : List ℕ) → BitmapPromise input count output scratch r o s →
-    Behind (λ (a : bucket_answer.Answer). three_numbers (bucket_answers.told_of a)) r (λ (a : bucket_answer.Answer). bucket.BitmapPromise input count output scratch a o s)
+    Behind (λ (a : bucket_answers.Answer). three_numbers (bucket_answers.told_of a)) r (λ (a : bucket_answers.Answer). bucket.BitmapPromise input count output scratch a o s)
 exported_bitmap input count output scratch r o s e = bucket_behind r o s (bitmap_of input count output scratch) e
 
 -- asdrifen_stamp_precedes_snapshot: 1 for yes, 0 for no
