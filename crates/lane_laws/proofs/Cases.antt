@@ -4,7 +4,7 @@ use mathlib.Core.Path.{◌≡◌, refl, ap}
 use mathlib.Core.Bool.{true, false, Bool}
 use mathlib.Mathlib.Data.Bool.Basic.{and_elim_left}
 use lib.Dec.{leb}
-use Rattle.std.proofs.Common.{ℕ, Result, Ok, Err}
+use Rattle.std.proofs.Common.{ℕ, Result, Ok, Err, is_err}
 use borrow.Author.Tests.{ne_eqb, leb-true}
 use Rattle.booleans.proofs.Tests.{impossible}
 use Rattle.lane_rules.specs.Answers.{told_of, is_accepted}
@@ -53,6 +53,11 @@ error_not_yes e = impossible (cc)
 -- an error is not a no
 pub error_not_no : let fault : Result Bool ErrorByte = error_met in fault ≡ Ok false → ⊥
 error_not_no e = impossible (cc)
+
+-- there is one error to meet
+pub one_error : {A : Type 0} (r : Result A ErrorByte) → is_err r ≡ true → r ≡ error_met
+one_error (Ok x) h = impossible (cc)
+one_error (Err e) h = refl
 
 -- answers with different numbers are different
 pub other_number : {a b : Result ℕ Failure} → a ≡ b → ((told_of a).answer ≡ (told_of b).answer → ⊥) → ⊥

@@ -4,6 +4,7 @@ use Rattle.strips.specs.Strips.{proper_strip}
 use Rattle.masks.specs.Masks.{most_lanes, lanes_below, within}
 use Rattle.lane_rules.specs.declared.Done.{Done}
 use Rattle.lane_rules.specs.declared.View.{View}
+use Rattle.lane_rules.specs.declared.Walk.{Walk}
 use Rattle.lane_rules.specs.declared.Failure.{Failure}
 use Rattle.lane_rules.specs.Answers.{is_accepted}
 use Rattle.lane_rules.specs.Passes.{Pass, by_said, cached_pass, refreshed_pass}
@@ -54,6 +55,10 @@ unless_refused (Err a) v work = record { answer = Err a; view = v }
 abbrev pub view_with : View → ℕ → ℕ → ℕ → View
 view_with v attached window retired =
     record { height = v.height; guarded = v.guarded; retired = retired; attached = attached; window = window }
+
+-- the walk that a pass leaves
+abbrev pub walked : Walk → Pass → Walk
+walked w p = record { view = view_with w.view p.attached w.view.window w.view.retired; read = p.read }
 
 -- a pass: yes tells 1, no tells 0, an error is 24 and no round was made
 abbrev pub passed : View → Pass → Done

@@ -1,85 +1,74 @@
 -- The cached pass, turn by turn: where so many lanes are left, the pass from the start is the pass from here.
-use Prim.Native.Nat.{ℕ, suc, ◌+◌, ◌-◌, ◌≤◌, ◌<◌}
-use native.Mathlib.Omega.{arith}
-use mathlib.Core.Path.{◌≡◌, refl, ap, ◌∙◌}
-use mathlib.Core.List.{List}
-use mathlib.Core.Bool.{true, false}
+use Rattle.std.proofs.Common.{◌≡◌, ℕ, suc, ◌+◌, ◌-◌, ◌≤◌, ◌<◌, List, Bool, true, false, Result, Ok, refl, ap, ◌∙◌, arith}
 use Rattle.strips.specs.Strips.{byte_at}
-use Rattle.booleans.proofs.Tests.{clash}
 use Rattle.masks.specs.Masks.{lane_in}
-use Rattle.lane_rules.specs.declared.Said.{Said}
-use Rattle.lane_rules.specs.declared.Compared.{Compared}
-use Rattle.lane_rules.specs.declared.Pass.{Pass}
-use Rattle.lane_rules.specs.Steps.{compared}
-use Rattle.lane_rules.specs.Passes.{by_said, cached_pass}
+use Rattle.lane_rules.specs.declared.ErrorByte.{ErrorByte}
+use Rattle.lane_rules.specs.declared.Walk.{Walk}
+use Rattle.lane_rules.specs.Steps.{error_met, Compared, compared}
+use Rattle.lane_rules.specs.Passes.{Pass, by_said, cached_pass}
+use Rattle.lane_rules.specs.Calls.{walked}
+use Rattle.passes.proofs.Walks.{SameElse, after_compare, same_after, leaves}
+
+-- the pass over so many lanes, from where a walk stands
+abbrev pub cached_from : List ℕ → ℕ → Walk → Pass
+cached_from strip lane w = cached_pass strip lane w.view.window w.view.attached w.read
 
 -- so many lanes are left; each byte read belongs to a lane that is not
-pub record Caching (strip : List ℕ) (height window attached remain read lane : ℕ) : Type 0 where
-  pub few : read + lane ≤ height
-  pub is : cached_pass strip height window attached 0 ≡ cached_pass strip lane window remain read
+pub record Caching (strip : List ℕ) (start now : Walk) (lane : ℕ) : Type 0 where
+  pub few : now.read + lane ≤ start.read + start.view.height
+  pub same : SameElse start now
+  pub is : cached_from strip start.view.height start ≡ cached_from strip lane now
 
-pub caching_start : (strip : List ℕ) (height window attached : ℕ) → Caching strip height window attached attached 0 height
-caching_start strip height window attached = record { few = omega arith; is = refl }
+pub caching_start : (strip : List ℕ) (start : Walk) → Caching strip start start start.view.height
+caching_start strip start = record { few = omega arith; same = refl; is = refl }
 
-module _ (strip : List ℕ) (window attached read lane : ℕ) (h : 0 < lane) where
-  top : lane ≡ suc (lane - 1)
-  top = omega arith
+module _ {strip : List ℕ} {start now : Walk} {lane : ℕ} (z : Caching strip start now lane) where
+  -- the pass from the start
+  abbrev pass : Pass
+  pass = cached_from strip start.view.height start
 
-  outside :
-      lane_in window (lane - 1) ≡ false →
-      cached_pass strip lane window attached read ≡ record { said = Said.No; attached = attached; read = read }
-  unfolding cached_pass
-  outside e = ap (λ (n : ℕ). cached_pass strip n window attached read) top ∙ rw e
-
-  tries :
-      (c : Compared) → lane_in window (lane - 1) ≡ true → c ≡ compared (byte_at strip read) (lane - 1) attached →
-      cached_pass strip lane window attached read ≡ by_said c.said (cached_pass strip (lane - 1) window c.attached (read + 1))
-      (record { said = Said.No; attached = c.attached; read = read + 1 })
-      (record { said = Said.Error; attached = c.attached; read = read + 1 })
-  unfolding cached_pass
-  tries c e f = ap (λ (n : ℕ). cached_pass strip n window attached read) top ∙ rw (e, f)
-
--- after a yes the pass goes on
-goes_on : (s : Said) (next stop fail : Pass) → by_said s true false false ≡ true → by_said s next stop fail ≡ next
-goes_on Said.Yes next stop fail e = refl
-goes_on Said.No next stop fail e = absurd (clash false e refl)
-goes_on Said.Error next stop fail e = absurd (clash false e refl)
-
--- and else it stops with what was said
-stops :
-    (s : Said) (next : Pass) (attached read : ℕ) → by_said s true false false ≡ false →
-    by_said s next (record { said = Said.No; attached = attached; read = read })
-    (record { said = Said.Error; attached = attached; read = read })
-    ≡ record { said = s; attached = attached; read = read }
-stops Said.Yes next attached read e = absurd (clash true refl e)
-stops Said.No next attached read e = refl
-stops Said.Error next attached read e = refl
-
-module _ {strip : List ℕ} {height window attached remain read lane : ℕ}
-    (z : Caching strip height window attached remain read lane) where
-  -- a lane outside the window
-  pub caching_outside :
-      0 < lane → lane_in window (lane - 1) ≡ false →
-      cached_pass strip height window attached 0 ≡ record { said = Said.No; attached = remain; read = read }
-  caching_outside h e = z.is ∙ outside strip window remain read lane h e
+  -- it ends here with a word
+  abbrev pub Ends : Walk → Result Bool ErrorByte → Type 0
+  Ends w said = (said ≡ pass.said) × (w ≡ walked start pass)
 
   -- all lanes are done
-  pub caching_end :
-      lane ≡ 0 → cached_pass strip height window attached 0 ≡ record { said = Said.Yes; attached = remain; read = read }
+  pub caching_end : lane ≡ 0 → Ends now (Ok true)
   unfolding cached_pass
-  caching_end e = z.is ∙ rw e
+  caching_end e = leaves start now (Ok true) pass z.same (z.is ∙ rw e)
 
-  module _ (c : Compared) (h : 0 < lane) (i : lane_in window (lane - 1) ≡ true)
-      (f : c ≡ compared (byte_at strip read) (lane - 1) remain) where
-    -- a lane that was cleared
-    pub caching_yes :
-        by_said c.said true false false ≡ true → Caching strip height window attached c.attached (read + 1) (lane - 1)
-    caching_yes s =
-        let a = z.few in
-        record { few = omega arith; is = z.is ∙ (tries strip window remain read lane h c i f ∙ goes_on c.said _ _ _ s) }
+  module _ (h : 0 < lane) where
+    top : lane ≡ suc (lane - 1)
+    top = omega arith
 
-    -- a lane that was not
-    pub caching_stop :
-        by_said c.said true false false ≡ false →
-        cached_pass strip height window attached 0 ≡ record { said = c.said; attached = c.attached; read = read + 1 }
-    caching_stop s = z.is ∙ (tries strip window remain read lane h c i f ∙ stops c.said _ _ _ s)
+    -- a lane outside the window
+    pub caching_outside : lane_in now.view.window (lane - 1) ≡ false → Ends now (Ok false)
+    unfolding cached_pass
+    caching_outside i =
+        leaves start now (Ok false) pass z.same (z.is ∙ (ap (λ (n : ℕ). cached_from strip n now) top ∙ rw i))
+
+    module _ (w : Walk) (said : Result Bool ErrorByte) (i : lane_in now.view.window (lane - 1) ≡ true) where
+      abbrev c : Compared
+      c = compared (byte_at strip now.read) (lane - 1) now.view.attached
+
+      module _ (e : said ≡ c.said) (f : w ≡ after_compare now c) where
+        tries :
+            pass ≡ by_said said (cached_from strip (lane - 1) w)
+            (record { said = Ok false; attached = w.view.attached; read = w.read })
+            (record { said = error_met; attached = w.view.attached; read = w.read })
+        unfolding cached_pass
+        tries = z.is ∙ (ap (λ (n : ℕ). cached_from strip n now) top ∙ rw (e, f, i))
+
+        -- a lane that was cleared
+        pub caching_yes : said ≡ Ok true → Caching strip start w (lane - 1)
+        caching_yes s =
+            let few = z.few in
+            let read : w.read ≡ now.read + 1 = ap (λ (x : Walk). x.read) f in
+            record { few = omega arith; same = same_after start now w c z.same f; is = tries ∙ rw s }
+
+        -- one that was not
+        pub caching_no : said ≡ Ok false → Ends w (Ok false)
+        caching_no s = leaves start w (Ok false) pass (same_after start now w c z.same f) (tries ∙ rw s)
+
+        -- and one at which an error was met
+        pub caching_error : said ≡ error_met → Ends w error_met
+        caching_error s = leaves start w error_met pass (same_after start now w c z.same f) (tries ∙ rw s)
