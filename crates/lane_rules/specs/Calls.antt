@@ -56,9 +56,13 @@ abbrev pub view_with : View → ℕ → ℕ → ℕ → View
 view_with v attached window retired =
     record { height = v.height; guarded = v.guarded; retired = retired; attached = attached; window = window }
 
+-- a walk with other masks, where so many bytes are read
+abbrev pub walk_with : Walk → ℕ → ℕ → ℕ → Walk
+walk_with w attached window read = record { view = view_with w.view attached window w.view.retired; read = read }
+
 -- the walk that a pass leaves
 abbrev pub walked : Walk → Pass → Walk
-walked w p = record { view = view_with w.view p.attached w.view.window w.view.retired; read = p.read }
+walked w p = walk_with w p.attached w.view.window p.read
 
 -- a pass: yes tells 1, no tells 0, an error is 24 and no round was made
 abbrev pub passed : View → Pass → Done

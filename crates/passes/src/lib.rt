@@ -33,8 +33,7 @@ fn compare_next(strip: &[u8], lane: u32, walk: &mut Walk) -> Said
     ensures left { let c = compared (byte_at strip.now walk.old.read) lane walk.old.view.attached in
         walk.new ≡ walked walk.old (record { said = c.said; attached = c.attached; read = walk.old.read + 1 }) }
 {
-    let byte = strips::byte_at(strip, walk.read);
-    walk.read += 1;
+    let byte = walk.next_byte(strip);
     compare(byte, lane, &mut walk.view.attached)
 }
 
