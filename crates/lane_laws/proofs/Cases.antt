@@ -70,6 +70,15 @@ refusal_not_accepted a h =
     let low = leb-true 20 number (and_elim_left (leb 20 number) (leb number 23) h) in
     ne_eqb number 0 (λ e. omega arith)
 
+-- nor is any failure
+pub failure_not_accepted : (f : Failure) → is_accepted (Err f) ≡ false
+failure_not_accepted Failure.Height = refl
+failure_not_accepted Failure.View = refl
+failure_not_accepted Failure.Window = refl
+failure_not_accepted Failure.Strip = refl
+failure_not_accepted (Failure.Offset n) = refl
+failure_not_accepted (Failure.Budget n) = refl
+
 -- a pass tells 1 where it says yes only
 pub yes_told : (s : Result Bool ErrorByte) → by_said {A = Result ℕ Failure} s (Ok 1) (Ok 0) (Err (Failure.Offset 0)) ≡ Ok 1 → s ≡ Ok true
 yes_told (Ok true) e = refl
