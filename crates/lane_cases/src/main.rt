@@ -4,7 +4,7 @@
 #![tactic(auto)]
 
 use case_text::{lists, reading, writing};
-use lane_rules::{Done, View};
+use lane_rules::{Done, Told, View};
 
 // Where the lists begin in the array of 2,300 numbers that holds them all: the view's five numbers (height, guarded flag, retired
 // flag, attached lanes, window), the number of rounds that a detach is lent, the pinned contents, and the strip.
@@ -26,7 +26,7 @@ const DETACH: usize = 6;
 // Writes the answer and its value.
 fn write_answer(done: Done) {
     let answer = done.answer;
-    let told = lanes::tell(answer);
+    let told = Told::from(answer);
     io::write_all(1, b": answer");
     writing::write_number(told.answer);
     io::write_all(1, b" value");
