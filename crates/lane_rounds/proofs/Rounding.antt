@@ -1,167 +1,178 @@
--- A round by its refresh, and the rounds turn by turn: where so many are made, the rounds from the start are the rounds from here.
-use Rattle.std.proofs.Common.{◌≡◌, ℕ, suc, ◌+◌, ◌-◌, ◌*◌, ◌≤◌, ◌<◌, List, Bool, true, false, Result, Ok, Err, MatchResult, IsErrAnd, refl, sym, ap, ◌∙◌, arith}
+-- A round by its refresh, and the rounds turn by turn: where this one comes next, the rounds from the start are the rounds from here.
+use Rattle.std.proofs.Common.{◌≡◌, ℕ, suc, ◌+◌, ◌-◌, ◌≤◌, ◌<◌, List, Bool, true, false, Result, Ok, Err, MatchResult, IsErrAnd, drop, refl, sym, ap, ◌∙◌, arith}
+use Rattle.std.proofs.lemmas.List.{drop-drop}
 use Rattle.strips.specs.Strips.{byte_at}
-use Rattle.masks.specs.Masks.{most_lanes}
 use Rattle.lane_rules.specs.declared.ErrorByte.{ErrorByte}
 use Rattle.lane_rules.specs.declared.Failure.{Failure}
 use Rattle.lane_rules.specs.declared.View.{View}
-use Rattle.lane_rules.specs.declared.Walk.{Walk}
-use Rattle.lane_rules.specs.Steps.{error_met, Refreshed, refreshed}
-use Rattle.lane_rules.specs.Passes.{Pass, by_said, cached_pass, refreshed_pass}
-use Rattle.lane_rules.specs.Rounds.{Round, Ended, pass_with, round, ended_by, rounds, detaching}
-use Rattle.lane_rules.specs.Calls.{view_with, walk_with, walked}
-use Rattle.lane_laws.specs.Clauses.{refreshed_by}
-use Rattle.lane_laws.proofs.Reading.{cached_reads, round_reads}
+use Rattle.lane_rules.specs.Steps.{error_met, refreshed}
+use Rattle.lane_rules.specs.Passes.{by_said}
+use Rattle.lane_rules.specs.Rounds.{Round, Ended, round, rounds, detaching}
+use Rattle.lane_rules.specs.Calls.{view_with}
+use Rattle.lane_laws.specs.Clauses.{refreshed_by, round_from}
+use Rattle.lane_laws.specs.Ends.{cached_work, refreshed_work, detach_work}
+use Rattle.lane_laws.proofs.Reading.{begun}
+use Rattle.lane_rounds.proofs.Ahead.{round_ahead, refreshed_from_ahead, round_from_ahead, rounds_ahead}
 
--- what was a word before its error was told otherwise
+-- a word that is told otherwise only where it is an error
 pub was_ok :
     {A E F : Type 0} (s : Result A E) (r : Result A F) (P : E → F → Type 0) (x : A) →
     MatchResult s (λ y. r ≡ Ok y) (λ e. IsErrAnd r (P e)) → r ≡ Ok x → s ≡ Ok x
 was_ok {A} {E} {F} (Ok y) r P x h e = let same : y ≡ x = cc (sym h ∙ e) in ap Ok same
 was_ok (Err y) r P x h e = absurd (rw e at h)
 
--- a round from where a walk stands, and so many rounds, where so many are made
-abbrev pub round_at : List ℕ → Walk → Round
-round_at strip w = round strip w.view.height w.view.attached w.view.window w.read
+-- a round ends with a word, this strip and this view
+abbrev pub RoundEnds : List ℕ → View → List ℕ → View → Result Bool ErrorByte → Round → Type 0
+RoundEnds strip start rest now said r =
+    (said ≡ r.said) × (now ≡ view_with start r.attached r.window start.retired) × (rest ≡ drop r.read strip)
 
-abbrev pub rounds_at : List ℕ → ℕ → ℕ → Walk → Ended
-rounds_at strip left made w = rounds strip w.view.height left made w.view.attached w.view.window w.read
-
--- the walk that a round leaves
-abbrev pub after_round : Walk → Round → Walk
-after_round w r = walk_with w r.attached r.window r.read
-
--- two walks differ at most in the two masks and in what is read
-abbrev pub SameElse : Walk → Walk → Type 0
-SameElse a b = b.view ≡ view_with a.view b.view.attached b.view.window a.view.retired
-
--- a round by its refresh, behind the byte that was read for it
-module _ (strip : List ℕ) (w n : Walk) (byte : ℕ) (said : Result Unit ErrorByte) (v : View) (b : byte ≡ byte_at strip w.read)
-    (l : n ≡ record { view = w.view; read = w.read + 1 })
-    (e : said ≡ (refreshed byte n.view.attached n.view.window).said)
-    (f : v ≡ refreshed_by n.view byte) where
-  -- the walk behind the refresh
-  abbrev pub behind : Walk
-  behind = record { view = v; read = n.read }
-
+-- a round by its refresh
+module _ (strip next : List ℕ) (v w : View) (byte : ℕ) (said : Result Unit ErrorByte) (b : byte ≡ byte_at strip 0)
+    (d : next ≡ drop 1 strip) (e : said ≡ (refreshed byte v.attached v.window).said) (f : w ≡ refreshed_by v byte) where
   -- what the refresh says
-  found : said ≡ (refreshed (byte_at strip w.read) w.view.attached w.view.window).said
-  found = rw (← b) (rw l at e)
-
-  -- and leaves
-  left : behind ≡ record { view = refreshed_by w.view (byte_at strip w.read); read = w.read + 1 }
-  left = rw (f, l, b)
+  found : (refreshed (byte_at strip 0) v.attached v.window).said ≡ said
+  found = let k : (refreshed byte v.attached v.window).said ≡ said = sym e in rw b at k
 
   -- one that failed, and one that did not
-  pub round_failed :
-      said ≡ error_met → (error_met ≡ (round_at strip w).said) × (behind ≡ after_round w (round_at strip w))
+  pub round_failed : said ≡ error_met → RoundEnds strip v next w error_met (round_from v strip 0)
   unfolding round
-  round_failed h = rw (left, ← found, h) (refl, refl)
+  round_failed h = let failed = found ∙ h in rw (f, d, b, failed) (refl, refl, refl)
 
   pub round_passed :
-      (x : Unit) (t : Result Bool ErrorByte) (u : Walk) → said ≡ Ok x →
-      let p = refreshed_pass strip v.height v.window v.attached n.read in
-      t ≡ p.said → u ≡ walked behind p → (t ≡ (round_at strip w).said) × (u ≡ after_round w (round_at strip w))
+      (x : Unit) (t : Result Bool ErrorByte) (u : View) (rest : List ℕ) → said ≡ Ok x →
+      let p = refreshed_work w next in
+      t ≡ p.said → u ≡ view_with w p.attached w.window w.retired → rest ≡ drop p.read next →
+      RoundEnds strip v rest u t (round_from v strip 0)
   unfolding round
-  round_passed x t u h c d = rw (c, d, ap (λ (y : Walk). y.view) left, ap (λ (y : Walk). y.read) left, ← found, h) (refl, refl)
+  round_passed x t u rest h c g m =
+      let passed = found ∙ h in
+      let a = refreshed (byte_at strip 0) v.attached v.window in
+      let p = refreshed_work (refreshed_by v (byte_at strip 0)) (drop 1 strip) in
+      rw (c, g, m, f, d, b, passed, refreshed_from_ahead strip 1 v.height a.window (begun a.attached 0))
+      (refl, refl, drop-drop p.read 1 strip)
 
--- the call ends with an answer and this walk
-abbrev pub Ends : Walk → Walk → Result ℕ Failure → Ended → Type 0
-Ends a w answer e = (answer ≡ e.answer) × (w ≡ walk_with a e.attached e.window e.read)
+-- a detach ends with an answer and this view
+abbrev pub Ends : View → View → Result ℕ Failure → Ended → Type 0
+Ends start now answer e = (answer ≡ e.answer) × (now ≡ view_with start e.attached e.window start.retired)
+
+-- all the rounds that are lent
+abbrev pub rounds_of : List ℕ → ℕ → View → Ended
+rounds_of strip lent v = rounds strip v.height lent 0 v.attached v.window 0
+
+-- two views differ at most in the two masks
+abbrev pub SameElse : View → View → Type 0
+SameElse a b = b ≡ view_with a b.attached b.window a.retired
 
 ends :
-    (a w : Walk) (answer : Result ℕ Failure) (e : Ended) → SameElse a w →
-    e ≡ record { answer = answer; attached = w.view.attached; window = w.view.window; read = w.read } → Ends a w answer e
-ends a w answer e v h = rw h (refl, ap (λ (x : View). record { view = x; read = w.read }) v)
+    (start now : View) (answer : Result ℕ Failure) (e : Ended) (read : ℕ) → SameElse start now →
+    e ≡ record { answer = answer; attached = now.attached; window = now.window; read = read } → Ends start now answer e
+ends start now answer e read v h = rw h (refl, v)
 
--- this round comes next; each round made has read at most a byte for its refresh and one for each lane
-pub record Rounding (strip : List ℕ) (lent : ℕ) (start now : Walk) (next : ℕ) : Type 0 where
+-- this round comes next
+pub record Rounding (strip : List ℕ) (lent : ℕ) (start : View) (rest : List ℕ) (now : View) (next : ℕ) : Type 0 where
   pub some : 0 < next
   pub low : next ≤ lent + 1
-  pub few : now.read ≤ start.read + (next - 1) * (most_lanes + 1)
+  pub read : ℕ
+  pub left : rest ≡ drop read strip
   pub same : SameElse start now
-  pub is : rounds_at strip lent 0 start ≡ rounds_at strip (lent + 1 - next) (next - 1) now
+  pub is :
+      rounds_of strip lent start ≡ rounds strip start.height (lent + 1 - next) (next - 1) now.attached now.window read
 
-module _ {strip : List ℕ} {lent : ℕ} {start now : Walk} {next : ℕ} (z : Rounding strip lent start now next) where
-  -- the number of lanes stays
-  height : now.view.height ≡ start.view.height
-  height = ap (λ (v : View). v.height) z.same
+pub rounding_start : (strip : List ℕ) (lent : ℕ) (start : View) → Rounding strip lent start strip start 1
+rounding_start strip lent start =
+    let all : lent + 1 - 1 ≡ lent = omega arith in
+    record {
+      some = omega arith;
+      low = omega arith;
+      read = 0;
+      left = refl;
+      same = refl;
+      is = ap (λ (n : ℕ). rounds strip start.height n 0 start.attached start.window 0) (sym all);
+    }
 
+module _ {strip : List ℕ} {lent : ℕ} {start : View} {rest : List ℕ} {now : View} {next : ℕ}
+    (z : Rounding strip lent start rest now next) where
   -- the rounds lent are used up
-  pub rounding_end : next ≡ lent + 1 → Ends start now (Err (Failure.Budget lent)) (rounds_at strip lent 0 start)
+  pub rounding_end : next ≡ lent + 1 → Ends start now (Err (Failure.Budget lent)) (rounds_of strip lent start)
   unfolding rounds
   rounding_end e =
       let none : lent + 1 - next ≡ 0 = omega arith in
       let all : next - 1 ≡ lent = omega arith in
-      ends start now (Err (Failure.Budget lent)) _ z.same (z.is ∙ rw (none, all))
+      ends start now (Err (Failure.Budget lent)) _ z.read z.same (z.is ∙ rw (none, all))
 
-  module _ (w : Walk) (said : Result Bool ErrorByte) (h : next ≤ lent) (e : said ≡ (round_at strip now).said)
-      (f : w ≡ after_round now (round_at strip now)) where
+  -- the round from here, as one behind all that was read
+  here : round strip start.height now.attached now.window z.read ≡ round_ahead z.read (round_from now rest 0)
+  here =
+      let lanes : now.height ≡ start.height = ap (λ (v : View). v.height) z.same in
+      let none : z.read + 0 ≡ z.read = omega arith in
+      let k = round_from_ahead strip z.read start.height now.attached now.window 0 in
+      rw (lanes, z.left) (rw none at k)
+
+  -- so many bytes are read behind it
+  abbrev read : ℕ
+  read = z.read + (round_from now rest 0).read
+
+  module _ (w : View) (m : List ℕ) (said : Result Bool ErrorByte) (h : next ≤ lent)
+      (e : RoundEnds rest now m w said (round_from now rest 0)) where
     goes :
-        rounds_at strip lent 0 start ≡ by_said said
-        (record { answer = Ok next; attached = w.view.attached; window = w.view.window; read = w.read })
-        (rounds_at strip (lent - next) next w)
-        (record { answer = Err (Failure.Offset next); attached = w.view.attached; window = w.view.window; read = w.read })
+        rounds_of strip lent start ≡ by_said said
+        (record { answer = Ok next; attached = w.attached; window = w.window; read = read })
+        (rounds strip start.height (lent - next) next w.attached w.window read)
+        (record { answer = Err (Failure.Offset next); attached = w.attached; window = w.window; read = read })
     unfolding rounds
     goes =
         let some = z.some in
         let left : lent + 1 - next ≡ suc (lent - next) = omega arith in
         let made : next - 1 + 1 ≡ next = omega arith in
-        z.is ∙ (ap (λ (n : ℕ). rounds_at strip n (next - 1) now) left ∙ rw (made, e, f))
+        z.is
+        ∙ (ap (λ (n : ℕ). rounds strip start.height n (next - 1) now.attached now.window z.read) left ∙ rw (made, here, e.0, e.1))
 
-    -- nothing but the masks and the bytes read has changed
+    -- nothing but the masks has changed
     same : SameElse start w
     same =
-        let r = round_at strip now in
-        rw f (ap (λ (v : View). view_with v r.attached r.window v.retired) z.same)
+        let r = round_from now rest 0 in
+        rw e.1 (ap (λ (v : View). view_with v r.attached r.window v.retired) z.same)
 
     -- a round that says yes, one that fails, and one that says no
-    pub rounding_yes : said ≡ Ok true → Ends start w (Ok next) (rounds_at strip lent 0 start)
-    rounding_yes s = ends start w (Ok next) _ same (goes ∙ rw s)
+    pub rounding_yes : said ≡ Ok true → Ends start w (Ok next) (rounds_of strip lent start)
+    rounding_yes s = ends start w (Ok next) _ read same (goes ∙ rw s)
 
-    pub rounding_error : said ≡ error_met → Ends start w (Err (Failure.Offset next)) (rounds_at strip lent 0 start)
-    rounding_error s = ends start w (Err (Failure.Offset next)) _ same (goes ∙ rw s)
+    pub rounding_error : said ≡ error_met → Ends start w (Err (Failure.Offset next)) (rounds_of strip lent start)
+    rounding_error s = ends start w (Err (Failure.Offset next)) _ read same (goes ∙ rw s)
 
-    pub rounding_no : said ≡ Ok false → start.view.height ≤ most_lanes → Rounding strip lent start w (next + 1)
-    rounding_no s k =
+    pub rounding_no : said ≡ Ok false → Rounding strip lent start m w (next + 1)
+    rounding_no s =
         let some = z.some in
-        let few = z.few in
-        let lanes = height in
-        let reads = (round_reads strip now.view.height now.view.attached now.view.window now.read).high in
-        let read : w.read ≡ (round_at strip now).read = ap (λ (x : Walk). x.read) f in
         let left : lent + 1 - (next + 1) ≡ lent - next = omega arith in
         let made : next + 1 - 1 ≡ next = omega arith in
-        record { some = omega arith; low = omega arith; few = omega arith; same = same; is = goes ∙ rw (s, left, made) }
+        record {
+          some = omega arith;
+          low = omega arith;
+          read = read;
+          left = rw (e.2, z.left) (drop-drop (round_from now (drop z.read strip) 0).read z.read strip);
+          same = same;
+          is = goes ∙ rw (s, left, made);
+        }
 
 -- what follows a cached pass: it ends with a yes or an error, and after a no come the rounds
-module _ (strip : List ℕ) (lent : ℕ) (start w : Walk) (said : Result Bool ErrorByte) where
-  -- the pass
-  abbrev pub first : Pass
-  first = cached_pass strip start.view.height start.view.window start.view.attached 0
+module _ (strip : List ℕ) (lent : ℕ) (start w : View) (m : List ℕ) (said : Result Bool ErrorByte)
+    (e : said ≡ (cached_work start strip).said)
+    (f : w ≡ view_with start (cached_work start strip).attached start.window start.retired)
+    (g : m ≡ drop (cached_work start strip).read strip) where
+  pub detaching_yes : said ≡ Ok true → Ends start w (Ok 0) (detach_work start strip lent)
+  unfolding detaching
+  detaching_yes s = rw (f, ← e, s) (refl, refl)
 
-  -- what the detach comes to
-  abbrev pub all : Ended
-  all = detaching strip start.view.height lent start.view.attached start.view.window
+  pub detaching_error : said ≡ error_met → Ends start w (Err (Failure.Offset 0)) (detach_work start strip lent)
+  unfolding detaching
+  detaching_error s = rw (f, ← e, s) (refl, refl)
 
-  module _ (e : said ≡ first.said) (f : w ≡ walked start first) where
-    -- it has read at most a byte for each lane
-    pub detaching_few : start.view.height ≤ most_lanes → w.read ≤ most_lanes
-    detaching_few k =
-        let a = (cached_reads strip start.view.window start.view.height start.view.attached 0).high in
-        rw f (omega arith)
-
-    pub detaching_yes : said ≡ Ok true → Ends start w (Ok 0) all
-    unfolding detaching
-    detaching_yes s = rw (f, ← e, s) (refl, refl)
-
-    goes_on : said ≡ Ok false → rounds_at strip lent 0 w ≡ all
-    unfolding detaching
-    goes_on s = rw (f, ← e, s)
-
-    pub detaching_no :
-        said ≡ Ok false → (t : Result ℕ Failure) (u : Walk) → Ends w u t (rounds_at strip lent 0 w) → Ends start u t all
-    detaching_no s t u k = rw (k.0, k.1, goes_on s, f) (refl, refl)
-
-    pub detaching_error : said ≡ error_met → Ends start w (Err (Failure.Offset 0)) all
-    unfolding detaching
-    detaching_error s = rw (f, ← e, s) (refl, refl)
+  pub detaching_no :
+      said ≡ Ok false → (t : Result ℕ Failure) (u : View) → Ends w u t (rounds_of m lent w) →
+      Ends start u t (detach_work start strip lent)
+  unfolding detaching
+  detaching_no s t u k =
+      let p = cached_work start strip in
+      let none : p.read + 0 ≡ p.read = omega arith in
+      let ahead = rw none at (rounds_ahead strip p.read start.height lent 0 p.attached start.window 0) in
+      rw (k.0, k.1, f, g, ← e, s, ahead) (refl, refl)

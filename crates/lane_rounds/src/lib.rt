@@ -1,22 +1,23 @@
 // Refresh, one round of a refresh and a refreshed pass, and the rounds of a detach, as storage behaves by the strip. An inner layer,
-// not delivered: what counts the bytes read asks that the count has room to grow by one for each step.
+// not delivered.
 #![tactic(auto)]
 
-ghost use Rattle.std.specs.Prelude.{◌+◌, ◌^◌, ◌≤◌, ◌<◌, ◌≡◌};
-ghost use Rattle.masks.specs.Masks.{most_lanes};
+ghost use Rattle.std.specs.Prelude.{◌≡◌, drop};
 ghost use Rattle.lane_rules.specs.Steps.{refreshed};
-ghost use Rattle.lane_rules.specs.Rounds.{round, rounds, detaching};
-ghost use Rattle.lane_rules.specs.Calls.{view_with, walk_with};
+ghost use Rattle.lane_rules.specs.Rounds.{rounds};
+ghost use Rattle.lane_rules.specs.Calls.{view_with};
+ghost use Rattle.lane_laws.specs.Clauses.{round_from};
+ghost use Rattle.lane_laws.specs.Ends.{detach_work};
 
-use lane_rules::{Answer, ErrorByte, Failure, Said, View, Walk};
+use lane_rules::{Answer, ErrorByte, Failure, Said, View};
 use masks::clear_lowest;
-use passes::{cached_pass, refreshed_pass};
+use passes::{cached_pass, next_byte, refreshed_pass};
 
 // Byte 0 sets the window to the attached lanes; byte 1 first clears the lowest of them; byte 2 is an error, all unchanged.
 #[tactic(auto, unfolding(lane_rules::specs::Steps::refreshed))]
 fn refresh(byte: u8, view: &mut View) -> Result<(), ErrorByte>
     ensures said { result ≡ (refreshed byte view.old.attached view.old.window).said }
-    ensures left { let f = refreshed byte view.old.attached view.old.window in
+    ensures view { let f = refreshed byte view.old.attached view.old.window in
         view.new ≡ view_with view.old f.attached f.window view.old.retired }
 {
     match byte {
@@ -29,30 +30,25 @@ fn refresh(byte: u8, view: &mut View) -> Result<(), ErrorByte>
 }
 
 // A refresh by the next byte of the strip, and then a refreshed pass, unless the refresh failed.
-fn round_of(strip: &[u8], walk: &mut Walk) -> Said
-    requires { walk.old.read + 1 + walk.old.view.height < 2 ^ 64 }
-    ensures said { let v = walk.old.view in
-        result ≡ (round strip.now v.height v.attached v.window walk.old.read).said }
-    ensures left { let v = walk.old.view in let r = round strip.now v.height v.attached v.window walk.old.read in
-        walk.new ≡ walk_with walk.old r.attached r.window r.read }
+fn round_of(strip: &mut &[u8], view: &mut View) -> Said
+    ensures said { result ≡ (round_from view.old strip.old.now 0).said }
+    ensures view { let r = round_from view.old strip.old.now 0 in
+        view.new ≡ view_with view.old r.attached r.window view.old.retired }
+    ensures strip { strip.new.now ≡ drop (round_from view.old strip.old.now 0).read strip.old.now }
 {
-    let byte = walk.next_byte(strip);
-    refresh(byte, &mut walk.view)?;
-    refreshed_pass(strip, walk)
+    refresh(next_byte(strip), view)?;
+    refreshed_pass(strip, view)
 }
 
 // Rounds until a yes, from where another part of the call left off, at most as many as are lent. Those made are told, each refresh
 // begun counting, a failed one too.
-fn rounds_of(strip: &[u8], lent: u32, walk: &mut Walk) -> Answer
-    requires lanes { walk.old.view.height ≤ most_lanes }
-    requires room { walk.old.read ≤ most_lanes }
-    ensures answer { let v = walk.old.view in
-        result ≡ (rounds strip.now v.height lent 0 v.attached v.window walk.old.read).answer }
-    ensures left { let v = walk.old.view in let e = rounds strip.now v.height lent 0 v.attached v.window walk.old.read in
-        walk.new ≡ walk_with walk.old e.attached e.window e.read }
+fn rounds_of(mut strip: &[u8], lent: u32, view: &mut View) -> Answer
+    ensures answer { let v = view.old in result ≡ (rounds strip.now v.height lent 0 v.attached v.window 0).answer }
+    ensures view { let v = view.old in let e = rounds strip.now v.height lent 0 v.attached v.window 0 in
+        view.new ≡ view_with v e.attached e.window v.retired }
 {
     for round in 1..=lent {
-        if round_of(strip, walk).map_err(|_| Failure::Offset(round))? {
+        if round_of(&mut strip, view).map_err(|_| Failure::Offset(round))? {
             return Ok(round);
         }
     }
@@ -60,16 +56,13 @@ fn rounds_of(strip: &[u8], lent: u32, walk: &mut Walk) -> Answer
 }
 
 // The cached pass, and then rounds until a yes.
-pub fn detach(strip: &[u8], lent: u32, walk: &mut Walk) -> Answer
-    requires lanes { walk.old.view.height ≤ most_lanes }
-    requires start { walk.old.read ≡ 0 }
-    ensures answer { let v = walk.old.view in
-        result ≡ (detaching strip.now v.height lent v.attached v.window).answer }
-    ensures left { let v = walk.old.view in let e = detaching strip.now v.height lent v.attached v.window in
-        walk.new ≡ walk_with walk.old e.attached e.window e.read }
+pub fn detach(mut strip: &[u8], lent: u32, view: &mut View) -> Answer
+    ensures answer { result ≡ (detach_work view.old strip.now lent).answer }
+    ensures view { let e = detach_work view.old strip.now lent in
+        view.new ≡ view_with view.old e.attached e.window view.old.retired }
 {
-    if cached_pass(strip, walk)? {
+    if cached_pass(&mut strip, view)? {
         return Ok(0);
     }
-    rounds_of(strip, lent, walk)
+    rounds_of(strip, lent, view)
 }

@@ -4,7 +4,6 @@ use Rattle.strips.specs.Strips.{proper_strip}
 use Rattle.masks.specs.Masks.{most_lanes, lanes_below, within}
 use Rattle.lane_rules.specs.declared.Done.{Done}
 use Rattle.lane_rules.specs.declared.View.{View}
-use Rattle.lane_rules.specs.declared.Walk.{Walk}
 use Rattle.lane_rules.specs.declared.Failure.{Failure}
 use Rattle.lane_rules.specs.Answers.{is_accepted}
 use Rattle.lane_rules.specs.Passes.{Pass, by_said, cached_pass, refreshed_pass}
@@ -55,14 +54,6 @@ unless_refused (Err a) v work = record { answer = Err a; view = v }
 abbrev pub view_with : View → ℕ → ℕ → ℕ → View
 view_with v attached window retired =
     record { height = v.height; guarded = v.guarded; retired = retired; attached = attached; window = window }
-
--- a walk with other masks, where so many bytes are read
-abbrev pub walk_with : Walk → ℕ → ℕ → ℕ → Walk
-walk_with w attached window read = record { view = view_with w.view attached window w.view.retired; read = read }
-
--- the walk that a pass leaves
-abbrev pub walked : Walk → Pass → Walk
-walked w p = walk_with w p.attached w.view.window p.read
 
 -- a pass: yes tells 1, no tells 0, an error is 24 and no round was made
 abbrev pub passed : View → Pass → Done

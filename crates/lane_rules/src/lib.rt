@@ -2,8 +2,7 @@
 // specs/, which a reader takes in this order: Steps, Passes, Rounds, Answers, Calls, and then Examples, where they are tried.
 #![tactic(auto)]
 
-ghost use Rattle.std.specs.Prelude.{◌+◌, ◌^◌, ◌<◌, ◌≡◌};
-ghost use Rattle.strips.specs.Strips.{byte_at};
+ghost use Rattle.std.specs.Prelude.{◌≡◌};
 ghost use Rattle.lane_rules.specs.declared.Failure.{Failure};
 ghost use Rattle.lane_rules.specs.Answers.{told_of};
 
@@ -29,26 +28,6 @@ pub struct ErrorByte;
 
 // What a compare, a pass or a round says: yes or no, or else that it met an error.
 pub type Said = Result<bool, ErrorByte>;
-
-// A call at work: the view as it stands, and how many bytes of the strip are read.
-#[derive(Clone, Copy)]
-pub struct Walk {
-    pub view: View,
-    pub read: usize,
-}
-
-impl Walk {
-    // The next byte of the strip, which is then read.
-    pub fn next_byte(&mut self, strip: &[u8]) -> u8
-        requires { self.old.read + 1 < 2 ^ 64 }
-        ensures byte { result ≡ byte_at strip.now self.old.read }
-        ensures left { self.new ≡ record { view = self.old.view; read = self.old.read + 1 } }
-    {
-        let byte = strips::byte_at(strip, self.read);
-        self.read += 1;
-        byte
-    }
-}
 
 // What an answer says where the call is not accepted, a variant for each number that an operator sees (specs/Answers.antt gives
 // number and value).

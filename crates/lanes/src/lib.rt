@@ -9,62 +9,56 @@ ghost use Rattle.lanes.specs.Promises.{CachedPromise, RefreshedPromise, DetachPr
 
 use lane_checks::{entry_checks, refreshed_checks};
 use lane_rounds::detach;
-use lane_rules::{Answer, Done, View, Walk};
+use lane_rules::{Answer, Done, View};
 use passes::{cached_pass, refreshed_pass};
 
 // The cached pass, unless a check refuses it: 1 for a yes and 0 for a no.
-fn cached_answer(strip: &[u8], walk: &mut Walk) -> Answer
-    requires { walk.old.read ≡ 0 }
-    ensures { record { view = walk.new.view; answer = result } ≡ cached_of walk.old.view strip.now }
+fn cached_answer(mut strip: &[u8], view: &mut View) -> Answer
+    ensures { record { view = view.new; answer = result } ≡ cached_of view.old strip.now }
 {
-    entry_checks(walk.view, strip)?;
-    Ok(u32::from(cached_pass(strip, walk)?))
+    entry_checks(*view, strip)?;
+    Ok(u32::from(cached_pass(&mut strip, view)?))
 }
 
 // The refreshed pass, unless a check refuses it.
-fn refreshed_answer(strip: &[u8], walk: &mut Walk) -> Answer
-    requires { walk.old.read ≡ 0 }
-    ensures { record { view = walk.new.view; answer = result } ≡ refreshed_of walk.old.view strip.now }
+fn refreshed_answer(mut strip: &[u8], view: &mut View) -> Answer
+    ensures { record { view = view.new; answer = result } ≡ refreshed_of view.old strip.now }
 {
-    refreshed_checks(walk.view, strip)?;
-    Ok(u32::from(refreshed_pass(strip, walk)?))
+    refreshed_checks(*view, strip)?;
+    Ok(u32::from(refreshed_pass(&mut strip, view)?))
 }
 
 // The passes and rounds of a detach, unless a check refuses it. The node is retired exactly where they end with a yes.
-fn detach_answer(strip: &[u8], rounds: u32, walk: &mut Walk) -> Answer
-    requires { walk.old.read ≡ 0 }
-    ensures { record { view = walk.new.view; answer = result } ≡ detach_of walk.old.view strip.now rounds }
+fn detach_answer(strip: &[u8], rounds: u32, view: &mut View) -> Answer
+    ensures { record { view = view.new; answer = result } ≡ detach_of view.old strip.now rounds }
 {
-    entry_checks(walk.view, strip)?;
-    let made = detach(strip, rounds, walk)?;
-    walk.view.retired = 1;
+    entry_checks(*view, strip)?;
+    let made = detach(strip, rounds, view)?;
+    view.retired = 1;
     Ok(made)
 }
 
 // The cached pass: tries each lane of the window from the top lane down, and tells 1 where all are detached.
-pub fn cached_detach(view: View, contents: &[u32], strip: &[u8]) -> Done
+pub fn cached_detach(mut view: View, contents: &[u32], strip: &[u8]) -> Done
     ensures { CachedPromise view strip.now result }
 {
-    let mut walk = Walk { view, read: 0 };
-    let answer = cached_answer(strip, &mut walk);
-    Done { view: walk.view, answer }
+    let answer = cached_answer(strip, &mut view);
+    Done { view, answer }
 }
 
 // The refreshed pass: tries the lanes of the window, and tells 1 where there was none left to try.
-pub fn refreshed_detach(view: View, contents: &[u32], strip: &[u8]) -> Done
+pub fn refreshed_detach(mut view: View, contents: &[u32], strip: &[u8]) -> Done
     ensures { RefreshedPromise view strip.now result }
 {
-    let mut walk = Walk { view, read: 0 };
-    let answer = refreshed_answer(strip, &mut walk);
-    Done { view: walk.view, answer }
+    let answer = refreshed_answer(strip, &mut view);
+    Done { view, answer }
 }
 
 // Detaches the node from all its lanes and retires it, in at most so many rounds. Two more than half the strip's bytes are always
 // enough, unless storage fails.
-pub fn detach_before_retire(view: View, contents: &[u32], strip: &[u8], rounds: u32) -> Done
+pub fn detach_before_retire(mut view: View, contents: &[u32], strip: &[u8], rounds: u32) -> Done
     ensures { DetachPromise view strip.now rounds result }
 {
-    let mut walk = Walk { view, read: 0 };
-    let answer = detach_answer(strip, rounds, &mut walk);
-    Done { view: walk.view, answer }
+    let answer = detach_answer(strip, rounds, &mut view);
+    Done { view, answer }
 }

@@ -1,74 +1,63 @@
 -- The cached pass, turn by turn: where so many lanes are left, the pass from the start is the pass from here.
-use Rattle.std.proofs.Common.{◌≡◌, ℕ, suc, ◌+◌, ◌-◌, ◌≤◌, ◌<◌, List, Bool, true, false, Result, Ok, refl, ap, ◌∙◌, arith}
+use Rattle.std.proofs.Common.{◌≡◌, ℕ, suc, ◌+◌, ◌-◌, ◌<◌, List, Bool, true, false, Result, Ok, drop, refl, ap, ◌∙◌, arith}
 use Rattle.strips.specs.Strips.{byte_at}
 use Rattle.masks.specs.Masks.{lane_in}
 use Rattle.lane_rules.specs.declared.ErrorByte.{ErrorByte}
-use Rattle.lane_rules.specs.declared.Walk.{Walk}
+use Rattle.lane_rules.specs.declared.View.{View}
 use Rattle.lane_rules.specs.Steps.{error_met, Compared, compared}
 use Rattle.lane_rules.specs.Passes.{Pass, by_said, cached_pass}
-use Rattle.lane_rules.specs.Calls.{walked}
-use Rattle.passes.proofs.Walks.{SameElse, after_compare, same_after, leaves}
+use Rattle.lane_laws.specs.Ends.{cached_work}
+use Rattle.passes.proofs.Standing.{Standing, Ends, standing_start, next_at, standing_next, ends}
 
--- the pass over so many lanes, from where a walk stands
-abbrev pub cached_from : List ℕ → ℕ → Walk → Pass
-cached_from strip lane w = cached_pass strip lane w.view.window w.view.attached w.read
+-- so many lanes are left
+pub record Caching (strip : List ℕ) (start : View) (rest : List ℕ) (now : View) (lane : ℕ) : Type 0 where
+  pub read : ℕ
+  pub standing : Standing strip start rest now read
+  pub is : cached_work start strip ≡ cached_pass strip lane now.window now.attached read
 
--- so many lanes are left; each byte read belongs to a lane that is not
-pub record Caching (strip : List ℕ) (start now : Walk) (lane : ℕ) : Type 0 where
-  pub few : now.read + lane ≤ start.read + start.view.height
-  pub same : SameElse start now
-  pub is : cached_from strip start.view.height start ≡ cached_from strip lane now
+pub caching_start : (strip : List ℕ) (start : View) → Caching strip start strip start start.height
+caching_start strip start = record { read = 0; standing = standing_start strip start; is = refl }
 
-pub caching_start : (strip : List ℕ) (start : Walk) → Caching strip start start start.view.height
-caching_start strip start = record { few = omega arith; same = refl; is = refl }
-
-module _ {strip : List ℕ} {start now : Walk} {lane : ℕ} (z : Caching strip start now lane) where
-  -- the pass from the start
-  abbrev pass : Pass
-  pass = cached_from strip start.view.height start
-
-  -- it ends here with a word
-  abbrev pub Ends : Walk → Result Bool ErrorByte → Type 0
-  Ends w said = (said ≡ pass.said) × (w ≡ walked start pass)
-
+module _ {strip : List ℕ} {start : View} {rest : List ℕ} {now : View} {lane : ℕ} (z : Caching strip start rest now lane) where
   -- all lanes are done
-  pub caching_end : lane ≡ 0 → Ends now (Ok true)
+  pub caching_end : lane ≡ 0 → Ends strip start rest now (Ok true) (cached_work start strip)
   unfolding cached_pass
-  caching_end e = leaves start now (Ok true) pass z.same (z.is ∙ rw e)
+  caching_end e = ends z.standing (Ok true) _ (z.is ∙ rw e)
 
   module _ (h : 0 < lane) where
-    top : lane ≡ suc (lane - 1)
-    top = omega arith
+    turn : cached_work start strip ≡ cached_pass strip (suc (lane - 1)) now.window now.attached z.read
+    turn =
+        let top : lane ≡ suc (lane - 1) = omega arith in
+        z.is ∙ ap (λ (n : ℕ). cached_pass strip n now.window now.attached z.read) top
 
     -- a lane outside the window
-    pub caching_outside : lane_in now.view.window (lane - 1) ≡ false → Ends now (Ok false)
+    pub caching_outside : lane_in now.window (lane - 1) ≡ false → Ends strip start rest now (Ok false) (cached_work start strip)
     unfolding cached_pass
-    caching_outside i =
-        leaves start now (Ok false) pass z.same (z.is ∙ (ap (λ (n : ℕ). cached_from strip n now) top ∙ rw i))
+    caching_outside i = ends z.standing (Ok false) _ (turn ∙ rw i)
 
-    module _ (w : Walk) (said : Result Bool ErrorByte) (i : lane_in now.view.window (lane - 1) ≡ true) where
-      abbrev c : Compared
-      c = compared (byte_at strip now.read) (lane - 1) now.view.attached
+    -- a lane inside it is tried by the next byte
+    module _ (byte attached : ℕ) (said : Result Bool ErrorByte) (next : List ℕ) (i : lane_in now.window (lane - 1) ≡ true)
+        (b : byte ≡ byte_at rest 0) (d : next ≡ drop 1 rest)
+        (e : record { said = said; attached = attached } ≡ compared byte (lane - 1) now.attached) where
+      tries :
+          cached_work start strip ≡ by_said said
+          (cached_pass strip (lane - 1) now.window attached (z.read + 1))
+          (record { said = Ok false; attached = attached; read = z.read + 1 })
+          (record { said = error_met; attached = attached; read = z.read + 1 })
+      unfolding cached_pass
+      tries = turn ∙ rw (i, ← next_at z.standing byte b, ← e) refl
 
-      module _ (e : said ≡ c.said) (f : w ≡ after_compare now c) where
-        tries :
-            pass ≡ by_said said (cached_from strip (lane - 1) w)
-            (record { said = Ok false; attached = w.view.attached; read = w.read })
-            (record { said = error_met; attached = w.view.attached; read = w.read })
-        unfolding cached_pass
-        tries = z.is ∙ (ap (λ (n : ℕ). cached_from strip n now) top ∙ rw (e, f, i))
+      -- it was cleared
+      pub caching_yes : said ≡ Ok true → Caching strip start next (record now { attached = attached }) (lane - 1)
+      caching_yes s =
+          record { read = z.read + 1; standing = standing_next z.standing next attached d; is = tries ∙ rw s }
 
-        -- a lane that was cleared
-        pub caching_yes : said ≡ Ok true → Caching strip start w (lane - 1)
-        caching_yes s =
-            let few = z.few in
-            let read : w.read ≡ now.read + 1 = ap (λ (x : Walk). x.read) f in
-            record { few = omega arith; same = same_after start now w c z.same f; is = tries ∙ rw s }
+      -- it was not
+      pub caching_no :
+          said ≡ Ok false → Ends strip start next (record now { attached = attached }) (Ok false) (cached_work start strip)
+      caching_no s = ends (standing_next z.standing next attached d) (Ok false) _ (tries ∙ rw s)
 
-        -- one that was not
-        pub caching_no : said ≡ Ok false → Ends w (Ok false)
-        caching_no s = leaves start w (Ok false) pass (same_after start now w c z.same f) (tries ∙ rw s)
-
-        -- and one at which an error was met
-        pub caching_error : said ≡ error_met → Ends w error_met
-        caching_error s = leaves start w error_met pass (same_after start now w c z.same f) (tries ∙ rw s)
+      -- an error was met
+      pub caching_error :
+          said ≡ error_met → Ends strip start next (record now { attached = attached }) error_met (cached_work start strip)
+      caching_error s = ends (standing_next z.standing next attached d) error_met _ (tries ∙ rw s)

@@ -1,79 +1,79 @@
 -- The refreshed pass, turn by turn: where so many lanes are left, the pass from the start is the pass from here.
-use Rattle.std.proofs.Common.{◌≡◌, ℕ, suc, ◌+◌, ◌-◌, ◌≤◌, ◌<◌, List, Bool, true, false, cond, Result, Ok, refl, ap, ◌∙◌, arith}
+use Rattle.std.proofs.Common.{◌≡◌, ℕ, suc, ◌+◌, ◌-◌, ◌<◌, List, Bool, true, false, cond, Result, Ok, drop, refl, ap, ◌∙◌, arith}
 use Rattle.strips.specs.Strips.{byte_at}
 use Rattle.masks.specs.Masks.{lane_in}
 use Rattle.lane_rules.specs.declared.ErrorByte.{ErrorByte}
-use Rattle.lane_rules.specs.declared.Walk.{Walk}
-use Rattle.lane_rules.specs.Steps.{error_met, Compared, compared}
-use Rattle.lane_rules.specs.Passes.{Pass, failed, try_lane, refreshed_from, refreshed_pass}
-use Rattle.lane_rules.specs.Calls.{walked}
-use Rattle.passes.proofs.Walks.{SameElse, after_compare, same_after, leaves}
+use Rattle.lane_rules.specs.declared.View.{View}
+use Rattle.lane_rules.specs.Steps.{error_met, compared}
+use Rattle.lane_rules.specs.Passes.{Pass, failed, try_lane, refreshed_from}
+use Rattle.lane_laws.specs.Ends.{refreshed_work}
+use Rattle.passes.proofs.Standing.{Standing, Ends, standing_start, next_at, standing_next, ends}
 
 -- the pass as it stands, where it has tried none, or some
-abbrev pub standing : Bool → Walk → Pass
-standing untried w = record { said = Ok untried; attached = w.view.attached; read = w.read }
+abbrev pub so_far : Bool → ℕ → ℕ → Pass
+so_far untried attached read = record { said = Ok untried; attached = attached; read = read }
 
--- the pass over all lanes, from where a walk stands
-abbrev pub refreshed_walk : List ℕ → Walk → Pass
-refreshed_walk strip w = refreshed_pass strip w.view.height w.view.window w.view.attached w.read
+-- it met no error
+untroubled : (untried : Bool) (attached read : ℕ) → failed (so_far untried attached read) ≡ false
+untroubled true attached read = refl
+untroubled false attached read = refl
 
--- so many lanes are left; each byte read belongs to a lane that is not
-pub record Refreshing (strip : List ℕ) (start now : Walk) (untried : Bool) (lane : ℕ) : Type 0 where
-  pub few : now.read + lane ≤ start.read + start.view.height
-  pub same : SameElse start now
-  pub is : refreshed_walk strip start ≡ refreshed_from strip lane now.view.window (standing untried now)
+-- so many lanes are left
+pub record Refreshing (strip : List ℕ) (start : View) (rest : List ℕ) (now : View) (untried : Bool) (lane : ℕ) : Type 0 where
+  pub read : ℕ
+  pub standing : Standing strip start rest now read
+  pub is : refreshed_work start strip ≡ refreshed_from strip lane now.window (so_far untried now.attached read)
 
--- one that tried none, and one that tried some, met no error
-untroubled : (untried : Bool) (w : Walk) → failed (standing untried w) ≡ false
-untroubled true w = refl
-untroubled false w = refl
+pub refreshing_start : (strip : List ℕ) (start : View) → Refreshing strip start strip start true start.height
+refreshing_start strip start = record { read = 0; standing = standing_start strip start; is = refl }
 
-module _ {strip : List ℕ} {start now : Walk} {untried : Bool} {lane : ℕ} (z : Refreshing strip start now untried lane) where
-  -- it ends here with a word
-  abbrev pub Ends : Walk → Result Bool ErrorByte → Type 0
-  Ends w said = (said ≡ (refreshed_walk strip start).said) × (w ≡ walked start (refreshed_walk strip start))
-
+module _ {strip : List ℕ} {start : View} {rest : List ℕ} {now : View} {untried : Bool} {lane : ℕ}
+    (z : Refreshing strip start rest now untried lane) where
   -- all lanes are done
-  pub refreshing_end : lane ≡ 0 → Ends now (Ok untried)
+  pub refreshing_end : lane ≡ 0 → Ends strip start rest now (Ok untried) (refreshed_work start strip)
   unfolding refreshed_from
-  refreshing_end e = leaves start now (Ok untried) _ z.same (z.is ∙ rw e)
+  refreshing_end e = ends z.standing (Ok untried) _ (z.is ∙ rw e)
 
   module _ (h : 0 < lane) where
-    -- a turn
-    goes :
-        let q = try_lane strip now.view.window (lane - 1) (standing untried now) in
-        refreshed_walk strip start ≡ cond (failed q) q (refreshed_from strip (lane - 1) now.view.window q)
+    turn :
+        let q = try_lane strip now.window (lane - 1) (so_far untried now.attached z.read) in
+        refreshed_work start strip ≡ cond (failed q) q (refreshed_from strip (lane - 1) now.window q)
     unfolding refreshed_from
-    goes =
+    turn =
         let top : lane ≡ suc (lane - 1) = omega arith in
-        z.is ∙ ap (λ (n : ℕ). refreshed_from strip n now.view.window (standing untried now)) top
+        z.is ∙ ap (λ (n : ℕ). refreshed_from strip n now.window (so_far untried now.attached z.read)) top
 
     -- a lane outside the window is passed over
-    pub refreshing_outside : lane_in now.view.window (lane - 1) ≡ false → Refreshing strip start now untried (lane - 1)
+    pub refreshing_outside : lane_in now.window (lane - 1) ≡ false → Refreshing strip start rest now untried (lane - 1)
     unfolding try_lane
     refreshing_outside i =
-        let few = z.few in
-        record { few = omega arith; same = z.same; is = goes ∙ rw (i, untroubled untried now) }
+        record { read = z.read; standing = z.standing; is = turn ∙ rw (i, untroubled untried now.attached z.read) }
 
-    module _ (w : Walk) (said : Result Bool ErrorByte) (i : lane_in now.view.window (lane - 1) ≡ true) where
-      abbrev c : Compared
-      c = compared (byte_at strip now.read) (lane - 1) now.view.attached
+    -- a lane inside it is tried by the next byte
+    module _ (byte attached : ℕ) (said : Result Bool ErrorByte) (next : List ℕ) (i : lane_in now.window (lane - 1) ≡ true)
+        (b : byte ≡ byte_at rest 0) (d : next ≡ drop 1 rest)
+        (e : record { said = said; attached = attached } ≡ compared byte (lane - 1) now.attached) where
+      -- whether it was cleared or not
+      pub refreshing_tried :
+          (cleared : Bool) → said ≡ Ok cleared → Refreshing strip start next (record now { attached = attached }) false (lane - 1)
+      unfolding try_lane
+      refreshing_tried true s =
+          record {
+            read = z.read + 1;
+            standing = standing_next z.standing next attached d;
+            is = turn ∙ rw (i, ← next_at z.standing byte b, ← e, s);
+          }
+      refreshing_tried false s =
+          record {
+            read = z.read + 1;
+            standing = standing_next z.standing next attached d;
+            is = turn ∙ rw (i, ← next_at z.standing byte b, ← e, s);
+          }
 
-      module _ (e : said ≡ c.said) (f : w ≡ after_compare now c) where
-        -- a lane that was tried, whether it was cleared or not
-        pub refreshing_tried : (cleared : Bool) → said ≡ Ok cleared → Refreshing strip start w false (lane - 1)
-        unfolding try_lane
-        refreshing_tried true s =
-            let few = z.few in
-            let read : w.read ≡ now.read + 1 = ap (λ (x : Walk). x.read) f in
-            record { few = omega arith; same = same_after start now w c z.same f; is = goes ∙ rw (i, ← e, s, f) }
-        refreshing_tried false s =
-            let few = z.few in
-            let read : w.read ≡ now.read + 1 = ap (λ (x : Walk). x.read) f in
-            record { few = omega arith; same = same_after start now w c z.same f; is = goes ∙ rw (i, ← e, s, f) }
-
-        -- and one at which an error was met
-        pub refreshing_error : said ≡ error_met → Ends w error_met
-        unfolding try_lane
-        refreshing_error s =
-            leaves start w error_met _ (same_after start now w c z.same f) (goes ∙ rw (i, ← e, s, f))
+      -- an error was met
+      pub refreshing_error :
+          said ≡ error_met → Ends strip start next (record now { attached = attached }) error_met (refreshed_work start strip)
+      unfolding try_lane
+      refreshing_error s =
+          ends (standing_next z.standing next attached d) error_met _
+          (turn ∙ rw (i, ← next_at z.standing byte b, ← e, s))

@@ -1,15 +1,23 @@
-// Compare and the two passes, step by step, as storage behaves by the strip. An inner layer, not delivered: what counts the bytes
-// read asks that the count has room to grow by one for each step.
+// Compare and the two passes, step by step, as storage behaves by the strip. An inner layer, not delivered. What is left of the strip
+// to read stands behind `strip`, and the view as the steps leave it behind `view`.
 #![tactic(auto)]
 
-ghost use Rattle.std.specs.Prelude.{◌+◌, ◌^◌, ◌<◌, ◌≡◌};
+ghost use Rattle.std.specs.Prelude.{◌≡◌, drop};
 ghost use Rattle.strips.specs.Strips.{byte_at};
 ghost use Rattle.lane_rules.specs.Steps.{compared};
-ghost use Rattle.lane_rules.specs.Passes.{cached_pass, refreshed_pass};
-ghost use Rattle.lane_rules.specs.Calls.{walked};
+ghost use Rattle.lane_rules.specs.Calls.{view_with};
+ghost use Rattle.lane_laws.specs.Ends.{cached_work, refreshed_work};
 
-use lane_rules::{ErrorByte, Said, Walk};
+use lane_rules::{ErrorByte, Said, View};
 use masks::{clear_lane, lane_in};
+
+// The next byte of the strip, which is then read; past the end reads 0.
+pub fn next_byte(strip: &mut &[u8]) -> u8
+    ensures byte { result ≡ byte_at strip.old.now 0 }
+    ensures strip { strip.new.now ≡ drop 1 strip.old.now }
+{
+    strip.split_off_first().copied().unwrap_or(0)
+}
 
 // Byte 0 clears the lane and says yes if it is attached, else no; byte 1 says no; byte 2 is an error.
 #[tactic(auto, unfolding(lane_rules::specs::Steps::compared))]
@@ -26,30 +34,18 @@ fn compare(byte: u8, lane: u32, attached: &mut u32) -> Said
     }
 }
 
-// A compare on the lane, by the next byte of the strip.
-fn compare_next(strip: &[u8], lane: u32, walk: &mut Walk) -> Said
-    requires { walk.old.read + 1 < 2 ^ 64 }
-    ensures said { result ≡ (compared (byte_at strip.now walk.old.read) lane walk.old.view.attached).said }
-    ensures left { let c = compared (byte_at strip.now walk.old.read) lane walk.old.view.attached in
-        walk.new ≡ walked walk.old (record { said = c.said; attached = c.attached; read = walk.old.read + 1 }) }
-{
-    let byte = walk.next_byte(strip);
-    compare(byte, lane, &mut walk.view.attached)
-}
-
 // The cached pass: from the top lane down, no at the first lane that is outside the window or is not cleared.
-pub fn cached_pass(strip: &[u8], walk: &mut Walk) -> Said
-    requires { walk.old.read + walk.old.view.height < 2 ^ 64 }
-    ensures said { let v = walk.old.view in
-        result ≡ (cached_pass strip.now v.height v.window v.attached walk.old.read).said }
-    ensures left { let v = walk.old.view in
-        walk.new ≡ walked walk.old (cached_pass strip.now v.height v.window v.attached walk.old.read) }
+pub fn cached_pass(strip: &mut &[u8], view: &mut View) -> Said
+    ensures said { result ≡ (cached_work view.old strip.old.now).said }
+    ensures view { let p = cached_work view.old strip.old.now in
+        view.new ≡ view_with view.old p.attached view.old.window view.old.retired }
+    ensures strip { strip.new.now ≡ drop (cached_work view.old strip.old.now).read strip.old.now }
 {
-    for lane in (0..walk.view.height).rev() {
-        if !lane_in(walk.view.window, lane) {
+    for lane in (0..view.height).rev() {
+        if !lane_in(view.window, lane) {
             return Ok(false);
         }
-        if !compare_next(strip, lane, walk)? {
+        if !compare(next_byte(strip), lane, &mut view.attached)? {
             return Ok(false);
         }
     }
@@ -57,17 +53,16 @@ pub fn cached_pass(strip: &[u8], walk: &mut Walk) -> Said
 }
 
 // The refreshed pass: from the top lane down, yes where no lane of the window was there to try; an error ends it.
-pub fn refreshed_pass(strip: &[u8], walk: &mut Walk) -> Said
-    requires { walk.old.read + walk.old.view.height < 2 ^ 64 }
-    ensures said { let v = walk.old.view in
-        result ≡ (refreshed_pass strip.now v.height v.window v.attached walk.old.read).said }
-    ensures left { let v = walk.old.view in
-        walk.new ≡ walked walk.old (refreshed_pass strip.now v.height v.window v.attached walk.old.read) }
+pub fn refreshed_pass(strip: &mut &[u8], view: &mut View) -> Said
+    ensures said { result ≡ (refreshed_work view.old strip.old.now).said }
+    ensures view { let p = refreshed_work view.old strip.old.now in
+        view.new ≡ view_with view.old p.attached view.old.window view.old.retired }
+    ensures strip { strip.new.now ≡ drop (refreshed_work view.old strip.old.now).read strip.old.now }
 {
     let mut is_untried = true;
-    for lane in (0..walk.view.height).rev() {
-        if lane_in(walk.view.window, lane) {
-            compare_next(strip, lane, walk)?;
+    for lane in (0..view.height).rev() {
+        if lane_in(view.window, lane) {
+            compare(next_byte(strip), lane, &mut view.attached)?;
             is_untried = false;
         }
     }
