@@ -6,6 +6,7 @@ use mathlib.Core.Path.{◌≡◌, refl, sym, ap, ◌∙◌}
 use mathlib.Core.List.{List, [], ◌∷◌, ◌++◌, map, append-nil}
 use mathlib.Core.Bool.{Bool, true, false, cond, ◌||◌}
 use lib.Dec.{eqb}
+use Rattle.std.proofs.Common.{Result}
 use borrow.Author.Tests.{lt-ltb, le-ltb}
 use Rattle.rules.specs.declared.Answer.{Answer}
 use Rattle.rules.specs.declared.Guard.{Guard}
@@ -25,7 +26,7 @@ use Rattle.publish.specs.Promises as posting
 use Rattle.guarding.specs.Asking.{flat}
 use Rattle.entry.specs.Promises.{EntryPromise}
 use Rattle.lane_rules.specs.declared.View.{View}
-use Rattle.lane_rules.specs.declared.Answer as lane_answer
+use Rattle.lane_rules.specs.declared.Failure as lane_failure
 use Rattle.lane_rules.specs.declared.Done as lane_done
 use Rattle.lane_rules.specs.Answers as lane_answers
 use Rattle.lane_rules.specs.Calls.{cached_of, refreshed_of, detach_of}
@@ -113,7 +114,7 @@ exported_held guards binding key r e = record { answer = held binding key guards
 -- a lane call
 lane_behind :
     (r : Detached) (d : lane_done.Done) → lane_seen r ≡ lane.seen d →
-    Behind lane_answers.told_of (record { answer = r.answer; value = r.value }) (λ (a : lane_answer.Answer). lane.seen (record { view = r.view; answer = a }) ≡ lane.seen d)
+    Behind lane_answers.told_of (record { answer = r.answer; value = r.value }) (λ (a : Result ℕ lane_failure.Failure). lane.seen (record { view = r.view; answer = a }) ≡ lane.seen d)
 lane_behind r d e =
     record {
       answer = d.answer;
@@ -125,19 +126,19 @@ module _ (v : View) (strip : List ℕ) (r : Detached) where
   -- asdrifen_cached_detach
   pub exported_cached :
       CachedPromise v strip r →
-      Behind lane_answers.told_of (record { answer = r.answer; value = r.value }) (λ (a : lane_answer.Answer). lane.CachedPromise v strip (record { view = r.view; answer = a }))
+      Behind lane_answers.told_of (record { answer = r.answer; value = r.value }) (λ (a : Result ℕ lane_failure.Failure). lane.CachedPromise v strip (record { view = r.view; answer = a }))
   exported_cached e = lane_behind r (cached_of v strip) e
 
   -- asdrifen_refreshed_detach
   pub exported_refreshed :
       RefreshedPromise v strip r →
-      Behind lane_answers.told_of (record { answer = r.answer; value = r.value }) (λ (a : lane_answer.Answer). lane.RefreshedPromise v strip (record { view = r.view; answer = a }))
+      Behind lane_answers.told_of (record { answer = r.answer; value = r.value }) (λ (a : Result ℕ lane_failure.Failure). lane.RefreshedPromise v strip (record { view = r.view; answer = a }))
   exported_refreshed e = lane_behind r (refreshed_of v strip) e
 
   -- asdrifen_detach_before_retire
   pub exported_detach :
       (lent : ℕ) → DetachPromise v strip lent r →
-      Behind lane_answers.told_of (record { answer = r.answer; value = r.value }) (λ (a : lane_answer.Answer). lane.DetachPromise v strip lent (record { view = r.view; answer = a }))
+      Behind lane_answers.told_of (record { answer = r.answer; value = r.value }) (λ (a : Result ℕ lane_failure.Failure). lane.DetachPromise v strip lent (record { view = r.view; answer = a }))
   exported_detach lent e = lane_behind r (detach_of v strip lent) e
 
 -- a bucket call, whose two numbers cross as three

@@ -81,7 +81,7 @@ impl Cases for Lists {
             Call::Refreshed => lanes::refreshed_detach(view, contents, strip),
             Call::Detach => lanes::detach_before_retire(view, contents, strip, rounds),
         };
-        let told = lanes::tell(done.answer);
+        let told = lane_rules::Told::from(done.answer);
         let view = done.view;
         write!(out, ": answer {} value {}", told.answer, told.value)?;
         write!(
