@@ -8,7 +8,6 @@ ghost use Rattle.bucket_rules.specs.Answers.{told_of};
 ghost use Rattle.exports_buckets.specs.Promises.{three_numbers, SortPromise, BitmapPromise, PrecedesPromise};
 
 use rules::Told;
-use yes_or_no::number_of;
 
 // The numbers of a bucket call's answer. No such answer names a second number.
 fn bucket_numbers(answer: bucket_rules::Answer) -> Told
@@ -55,5 +54,5 @@ pub extern "C" fn asdrifen_canonical_buckets_bitmap(
 pub extern "C" fn asdrifen_stamp_precedes_snapshot(stamp: u64, snapshot: u64) -> u32
     ensures { PrecedesPromise stamp snapshot result }
 {
-    number_of(buckets::stamp_precedes_snapshot(stamp, snapshot))
+    u32::from(buckets::stamp_precedes_snapshot(stamp, snapshot))
 }
