@@ -20,7 +20,9 @@ fn bad_height(view: View) -> bool
 fn bad_view(view: View) -> bool
     ensures { result ≡ bad_view view }
 {
-    view.guarded != 1 || view.retired != 0 || masks::lanes_below(view.attached, view.height) != view.attached
+    view.guarded != 1
+        || view.retired != 0
+        || masks::lanes_below(view.attached, view.height) != view.attached
 }
 
 // The failure, where its test applies.
@@ -53,6 +55,9 @@ pub fn refreshed_checks(view: View, strip: &[u8]) -> Result<(), Failure>
     ensures { result ≡ refreshed_checks view strip.now }
 {
     view_checks(view)?;
-    refuse(!masks::is_within(view.attached, view.window), Failure::Window)?;
+    refuse(
+        !masks::is_within(view.attached, view.window),
+        Failure::Window,
+    )?;
     refuse(!strips::proper_strip(strip), Failure::Strip)
 }

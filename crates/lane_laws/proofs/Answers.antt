@@ -12,13 +12,13 @@ use Rattle.lane_rules.specs.Answers.{told_of}
 answer_of : Told → Result ℕ Failure
 answer_of t =
     get_or
-    ((Ok t.value)
-    ∷ (Err Failure.Height)
-    ∷ (Err Failure.View)
-    ∷ (Err Failure.Window)
-    ∷ (Err Failure.Strip)
-    ∷ (Err (Failure.Offset t.value))
-    ∷ (Err (Failure.Budget t.value))
+    (Ok t.value
+    ∷ Err Failure.Height
+    ∷ Err Failure.View
+    ∷ Err Failure.Window
+    ∷ Err Failure.Strip
+    ∷ Err (Failure.Offset t.value)
+    ∷ Err (Failure.Budget t.value)
     ∷ [])
     (t.answer - 19)
     (Err Failure.Height)

@@ -16,7 +16,8 @@ use Rattle.lane_rules.specs.Steps.{error_met}
 
 -- what holds in all three cases holds of the choice
 pub by_said_lem :
-    {A : Type 0} (P : A → Type 0) (s : Result Bool ErrorByte) {x y z : A} → (s ≡ Ok true → P x) → (s ≡ Ok false → P y) → (s ≡ error_met → P z) →
+    {A : Type 0} (P : A → Type 0) (s : Result Bool ErrorByte) {x y z : A} → (s ≡ Ok true → P x) → (s ≡ Ok false → P y) →
+    (s ≡ error_met → P z) →
     P (by_said s x y z)
 by_said_lem P (Ok true) f g h = f refl
 by_said_lem P (Ok false) f g h = g refl
@@ -32,7 +33,8 @@ by_both P (Err _) x y y' z f g h = h
 
 -- two choices by one word stand to each other as each pair of their cases does
 pub by_pairs :
-    {A : Type 0} (P : A → A → Type 0) (s : Result Bool ErrorByte) {x x' y y' z z' : A} → (s ≡ Ok true → P x x') → (s ≡ Ok false → P y y') →
+    {A : Type 0} (P : A → A → Type 0) (s : Result Bool ErrorByte) {x x' y y' z z' : A} → (s ≡ Ok true → P x x') →
+    (s ≡ Ok false → P y y') →
     (s ≡ error_met → P z z') → P (by_said s x y z) (by_said s x' y' z')
 by_pairs P (Ok true) f g h = f refl
 by_pairs P (Ok false) f g h = g refl
@@ -80,19 +82,25 @@ failure_not_accepted (Failure.Offset n) = refl
 failure_not_accepted (Failure.Budget n) = refl
 
 -- a pass tells 1 where it says yes only
-pub yes_told : (s : Result Bool ErrorByte) → by_said {A = Result ℕ Failure} s (Ok 1) (Ok 0) (Err (Failure.Offset 0)) ≡ Ok 1 → s ≡ Ok true
+pub yes_told :
+    (s : Result Bool ErrorByte) → by_said {A = Result ℕ Failure} s (Ok 1) (Ok 0) (Err (Failure.Offset 0)) ≡ Ok 1 →
+    s ≡ Ok true
 yes_told (Ok true) e = refl
 yes_told (Ok false) e = impossible (cc)
 yes_told (Err _) e = impossible (cc)
 
 -- and 0 where it says no only
-pub no_told : (s : Result Bool ErrorByte) → by_said {A = Result ℕ Failure} s (Ok 1) (Ok 0) (Err (Failure.Offset 0)) ≡ Ok 0 → s ≡ Ok false
+pub no_told :
+    (s : Result Bool ErrorByte) → by_said {A = Result ℕ Failure} s (Ok 1) (Ok 0) (Err (Failure.Offset 0)) ≡ Ok 0 →
+    s ≡ Ok false
 no_told (Ok true) e = impossible (cc)
 no_told (Ok false) e = refl
 no_told (Err _) e = impossible (cc)
 
 -- and is 24 where it says error only
-pub error_told : (s : Result Bool ErrorByte) → by_said {A = Result ℕ Failure} s (Ok 1) (Ok 0) (Err (Failure.Offset 0)) ≡ Err (Failure.Offset 0) → s ≡ error_met
+pub error_told :
+    (s : Result Bool ErrorByte) →
+    by_said {A = Result ℕ Failure} s (Ok 1) (Ok 0) (Err (Failure.Offset 0)) ≡ Err (Failure.Offset 0) → s ≡ error_met
 error_told (Ok true) e = impossible (cc)
 error_told (Ok false) e = impossible (cc)
 error_told (Err _) e = refl

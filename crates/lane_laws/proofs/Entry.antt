@@ -106,7 +106,8 @@ module _ (v : View) (strip : List ℕ) (Asked : Type 0) (bad : Bool)
 
   -- what holds of each refusal, and of the work where all is as asked, holds of the outcome
   by_entry :
-      (P : Done → Type 0) (work : Done) → ((a : Failure) → is_refusal (Err a) ≡ true → P (record { answer = Err a; view = v })) →
+      (P : Done → Type 0) (work : Done) →
+      ((a : Failure) → is_refusal (Err a) ≡ true → P (record { answer = Err a; view = v })) →
       (Valid v → Asked → P work) → P (unless_refused checks v work)
   by_entry P work refused f = go checks found
     where
@@ -139,7 +140,8 @@ module _ (v : View) (strip : List ℕ) where
 
   -- what holds of each refusal, and of the work on a valid view, holds of the outcome
   pub detach_cases :
-      (P : Done → Type 0) (work : Done) → ((a : Failure) → is_refusal (Err a) ≡ true → P (record { answer = Err a; view = v })) →
+      (P : Done → Type 0) (work : Done) →
+      ((a : Failure) → is_refusal (Err a) ≡ true → P (record { answer = Err a; view = v })) →
       (Valid v → P work) → P (unless_refused (entry_checks v strip) v work)
   unfolding entry_checks
   detach_cases P work refused f = by_entry v strip (Unit {0}) false (λ r e. tt) (λ a. refl) P work refused (λ r a. f r)
@@ -160,7 +162,8 @@ module _ (v : View) (strip : List ℕ) where
 
   -- the same of the refreshed pass
   pub refreshed_cases :
-      (P : Done → Type 0) (work : Done) → ((a : Failure) → is_refusal (Err a) ≡ true → P (record { answer = Err a; view = v })) →
+      (P : Done → Type 0) (work : Done) →
+      ((a : Failure) → is_refusal (Err a) ≡ true → P (record { answer = Err a; view = v })) →
       (Valid v → Inside v.attached v.window → P work) → P (unless_refused (refreshed_checks v strip) v work)
   unfolding refreshed_checks
   refreshed_cases P work refused f =

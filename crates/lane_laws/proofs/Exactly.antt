@@ -57,13 +57,16 @@ module _ (strip : List ℕ) where
 
   -- the second of them ends with what is said
   heard_then :
-      (from via to : ℕ) (s : Result Bool ErrorByte) → from ≤ via → Clean strip from via → Heard strip via to s → Heard strip from to s
+      (from via to : ℕ) (s : Result Bool ErrorByte) → from ≤ via → Clean strip from via → Heard strip via to s →
+      Heard strip from to s
   heard_then from via to (Ok true) h p q = clean_then from via to p q
   heard_then from via to (Ok false) h p q = clean_then from via to p q
   heard_then from via to (Err _) h p q = fault_then from via to h p q
 
   -- a pass that met no error has read none
-  heard_clean : (from to : ℕ) (s : Result Bool ErrorByte) → by_said s false false true ≡ false → Heard strip from to s ↔ Clean strip from to
+  heard_clean :
+      (from to : ℕ) (s : Result Bool ErrorByte) → by_said s false false true ≡ false →
+      Heard strip from to s ↔ Clean strip from to
   heard_clean from to (Ok true) ok = (λ h. h, λ h. h)
   heard_clean from to (Ok false) ok = (λ h. h, λ h. h)
   heard_clean from to (Err _) ok = absurd (clash true refl ok)
@@ -286,7 +289,8 @@ module _ (v : View) (strip : List ℕ) where
 
 module _ {strip : List ℕ} {lent from attached read : ℕ} where
   -- a yes leaves no lane attached
-  pub accepted_detached : {a : Result ℕ Failure} → Ends strip lent from attached read a → is_accepted a ≡ true → attached ≡ 0
+  pub accepted_detached :
+      {a : Result ℕ Failure} → Ends strip lent from attached read a → is_accepted a ≡ true → attached ≡ 0
   accepted_detached (yes n k e c) t = e
   accepted_detached (error n k f) t = absurd (clash false t refl)
   accepted_detached (spent c) t = absurd (clash false t refl)
@@ -298,7 +302,9 @@ module _ {strip : List ℕ} {lent from attached read : ℕ} where
   ends_unrefused (spent c) = refl
 
   -- 24 comes of an error
-  fault_of : {a : Result ℕ Failure} → Ends strip lent from attached read a → (n : ℕ) → a ≡ Err (Failure.Offset n) → Fault strip from read
+  fault_of :
+      {a : Result ℕ Failure} → Ends strip lent from attached read a → (n : ℕ) → a ≡ Err (Failure.Offset n) →
+      Fault strip from read
   fault_of (yes m k e c) n o = absurd (other_number o (omega arith))
   fault_of (error m k f) n o = f
   fault_of (spent c) n o = absurd (other_number o (omega arith))
@@ -356,7 +362,8 @@ module _ (v : View) (strip : List ℕ) (lent : ℕ) (passes : entry_checks v str
       go false e r = let none = else_not_retired e in absurd (omega arith)
 
   -- 24: the last byte read is an error, and no other
-  pub offset_fault : (n : ℕ) → (detach_of v strip lent).answer ≡ Err (Failure.Offset n) → Fault strip 0 (detach_work v strip lent).read
+  pub offset_fault :
+      (n : ℕ) → (detach_of v strip lent).answer ≡ Err (Failure.Offset n) → Fault strip 0 (detach_work v strip lent).read
   offset_fault n e = fault_of detach_ends n e
 
   -- any other answer: no byte read is an error

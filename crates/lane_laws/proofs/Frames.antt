@@ -182,7 +182,8 @@ module _ (strip : List ℕ) (window : ℕ) where
         clears = clears_lane window _ lane p.attached c e leaves;
         yes = λ y.
             absurd
-            (by_said_lem (λ (s : Result Bool ErrorByte). s ≡ Ok true → ⊥) c.said (λ s. no_not_yes) (λ s. no_not_yes) (λ s. error_not_yes) y);
+            (by_said_lem (λ (s : Result Bool ErrorByte). s ≡ Ok true → ⊥) c.said
+            (λ s. no_not_yes) (λ s. no_not_yes) (λ s. error_not_yes) y);
       })
       (λ e. record { clears = clears_same window p.attached; yes = λ y. (refl, e) })
 

@@ -23,7 +23,8 @@ use Rattle.lane_laws.proofs.Enough.{accepted_had_rounds, had_rounds, detaching_m
 
 module _ {strip : List ℕ} {lent from attached read : ℕ} where
   -- an end that is neither 24 nor 25 is a yes
-  must_accept : {a : Result ℕ Failure} → Ends strip lent from attached read a → MetNoError a → HadRounds a → is_accepted a ≡ true
+  must_accept :
+      {a : Result ℕ Failure} → Ends strip lent from attached read a → MetNoError a → HadRounds a → is_accepted a ≡ true
   must_accept (yes n k e c) f g = refl
   must_accept (error n k e) f g = absurd (f n refl)
   must_accept (spent c) f g = absurd (g lent refl)
@@ -140,7 +141,8 @@ module _ (v : View) (strip : List ℕ) where
       short (Err a) h = absurd (refused_otherwise v strip lent a h n e)
 
   -- and there it comes
-  lent_is_spent : (lent : ℕ) → lent < rounds_needed v strip → (n : ℕ) × ((detach_of v strip lent).answer ≡ Err (Failure.Budget n))
+  lent_is_spent :
+      (lent : ℕ) → lent < rounds_needed v strip → (n : ℕ) × ((detach_of v strip lent).answer ≡ Err (Failure.Budget n))
   lent_is_spent lent k = ⊎_elim (λ e. e) (λ h. absurd (enough h)) (spent_or (detach_of v strip lent).answer)
     where
       enough : HadRounds (detach_of v strip lent).answer → ⊥

@@ -278,7 +278,8 @@ module _ (v : View) (strip : List ℕ) where
 
   -- one of them, by what is read and said
   tried_by :
-      (read : ℕ) (s : Result Bool ErrorByte) → Heard strip 0 read s → read ≤ tries → (by_said s false false true ≡ false → read ≡ tries) →
+      (read : ℕ) (s : Result Bool ErrorByte) → Heard strip 0 read s → read ≤ tries →
+      (by_said s false false true ≡ false → read ≡ tries) →
       (s ≡ Ok true → read ≡ 0) → (s ≡ Ok false → 0 < read) → Tried s
   tried_by read (Ok true) heard most all none some = let a = all refl in let b = none refl in omega arith
   tried_by read (Ok false) heard most all none some =

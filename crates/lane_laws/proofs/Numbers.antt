@@ -55,7 +55,8 @@ pass_number P v p zero offset =
 
 -- a detach that was made with 0, 24 or 25
 ends_number :
-    (P : ℕ → Type 0) {strip : List ℕ} {lent from attached read : ℕ} {a : Result ℕ Failure} → Ends strip lent from attached read a →
+    (P : ℕ → Type 0) {strip : List ℕ} {lent from attached read : ℕ} {a : Result ℕ Failure} →
+    Ends strip lent from attached read a →
     P 0 → P 24 → P 25 → P (told_of a).answer
 ends_number P (yes n k e c) zero offset budget = zero
 ends_number P (error n k f) zero offset budget = offset

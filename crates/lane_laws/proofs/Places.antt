@@ -62,7 +62,8 @@ module _ (v : View) (strip : List ℕ) where
   refreshed_found = go (refreshed_checks v strip) refl
     where
       worked :
-          {attached read : ℕ} (a : Result ℕ Failure) → refreshed_checks v strip ≡ Ok tt → (refreshed_of v strip).answer ≡ a →
+          {attached read : ℕ} (a : Result ℕ Failure) → refreshed_checks v strip ≡ Ok tt →
+          (refreshed_of v strip).answer ≡ a →
           PassEnds strip attached read a → RefreshedAnswers v strip a
       worked a h e (said_yes z c) =
           RefreshedAnswers.yes ((refreshed_entry v strip (Ok tt)).0 h) ((refreshed_yes_exactly v strip h).0 e)
@@ -165,7 +166,8 @@ module _ (v : View) (strip : List ℕ) (lent : ℕ) where
       let o = (offset_exactly v strip lent ((detach_entry v strip (Ok tt)).1 e)).1 i in
       o.1 ∙ ap (λ (n : ℕ). Err (Failure.Offset n)) (offset_needed o.0 o.1 ∙ sym n)
   detach_placed a (DetachAnswers.budget e k) =
-      let b = (budget_exactly v strip lent).1 k in b.1 ∙ ap (λ (n : ℕ). Err (Failure.Budget n)) (out_of_rounds v strip lent b.0 b.1).0
+      let b = (budget_exactly v strip lent).1 k in
+      b.1 ∙ ap (λ (n : ℕ). Err (Failure.Budget n)) (out_of_rounds v strip lent b.0 b.1).0
 
   -- each answer of detach, exactly in its place
   pub detach_exactly : (a : Result ℕ Failure) → ((detach_of v strip lent).answer ≡ a) ↔ DetachAnswers v strip lent a

@@ -123,7 +123,8 @@ unfolding detach_of detaching cached_pass digit lane_in
 slow_start n lent h = rw (slow_passes n h)
 
 -- one round fewer than the bound is not enough
-pub slow_short : (n : ℕ) → n ≤ most_bytes → (detach_of slow_view (slow_strip n) (n / 2 + 1)).answer ≡ Err (Failure.Budget (n / 2 + 1))
+pub slow_short :
+    (n : ℕ) → n ≤ most_bytes → (detach_of slow_view (slow_strip n) (n / 2 + 1)).answer ≡ Err (Failure.Budget (n / 2 + 1))
 unfolding rounds
 slow_short n h =
     rw (slow_start n (n / 2 + 1) h, slow_rounds (slow_strip n) n 0 0 0 0 (from_start (slow_strip n)), zero-add (n / 2 + 1))

@@ -100,7 +100,9 @@ pub retire_clauses : (v : View) → RetireClauses v
 retire_clauses v = record { retired = refl; attached = refl; height = refl; guarded = λ r. r.guard; window = refl }
 
 -- a pass gives no answer of a check
-told_unrefused : (s : Result Bool ErrorByte) → is_refusal (by_said {A = Result ℕ Failure} s (Ok 1) (Ok 0) (Err (Failure.Offset 0))) ≡ false
+told_unrefused :
+    (s : Result Bool ErrorByte) →
+    is_refusal (by_said {A = Result ℕ Failure} s (Ok 1) (Ok 0) (Err (Failure.Offset 0))) ≡ false
 told_unrefused (Ok true) = refl
 told_unrefused (Ok false) = refl
 told_unrefused (Err _) = refl

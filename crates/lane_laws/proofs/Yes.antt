@@ -4,7 +4,7 @@ use Prim.Native.Nat.{ℕ, zero, suc, ◌+◌}
 use native.Mathlib.Omega.{arith}
 use mathlib.Core.Path.{◌≡◌, refl, ◌∙◌}
 use mathlib.Core.List.{List}
-use mathlib.Core.Bool.{true, Bool, false}
+use mathlib.Core.Bool.{true, Bool}
 use mathlib.Core.Logic.{◌↔◌, ⊎_elim}
 use lib.Dec.{eqb}
 use Rattle.std.proofs.Common.{Result, Ok}

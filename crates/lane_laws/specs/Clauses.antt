@@ -179,7 +179,8 @@ pub record RefreshClauses (v : View) (byte : ℕ) : Type 0 where
   pub frame : Frame v (refreshed_by v byte)
   -- without an error the window is then the attached lanes
   pub ok_window :
-      is_err (refreshed byte v.attached v.window).said ≡ false → (refreshed_by v byte).window ≡ (refreshed_by v byte).attached
+      is_err (refreshed byte v.attached v.window).said ≡ false →
+      (refreshed_by v byte).window ≡ (refreshed_by v byte).attached
   -- with an error all is as before; upstream leaves the window open
   pub errors : is_err (refreshed byte v.attached v.window).said ≡ true → refreshed_by v byte ≡ v
 

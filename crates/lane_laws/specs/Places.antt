@@ -29,7 +29,8 @@ pub data RefreshedAnswers (v : View) (strip : List ℕ) : Result ℕ Failure →
       Clean strip 0 (lanes_tried v.window v.height) → RefreshedAnswers v strip (Ok 0)
   offset :
       RefreshedEntry v strip (Ok tt) →
-      (i : ℕ) × (i < lanes_tried v.window v.height) × (1 < byte_at strip i) → RefreshedAnswers v strip (Err (Failure.Offset 0))
+      (i : ℕ) × (i < lanes_tried v.window v.height) × (1 < byte_at strip i) →
+      RefreshedAnswers v strip (Err (Failure.Offset 0))
 
 -- detach, with so many rounds lent: 0 and 24 tell the rounds that it needs, 25 those that were lent
 pub data DetachAnswers (v : View) (strip : List ℕ) (lent : ℕ) : Result ℕ Failure → Type 0 where

@@ -1,12 +1,12 @@
 -- Where so many bytes of a strip are read, what is left of it is a strip from its start: passes and rounds go on there as they do
 -- here, but for the count of bytes read.
-use Rattle.std.proofs.Common.{◌≡◌, ℕ, zero, suc, ◌+◌, List, Bool, true, false, cond, Ok, is_err, drop, refl, sym, ◌∙◌, arith}
+use Rattle.std.proofs.Common.{◌≡◌, ℕ, zero, suc, ◌+◌, List, Bool, true, false, cond, is_err, drop, refl, sym, arith}
 use Rattle.std.proofs.lemmas.List.{get_or-drop}
 use Rattle.strips.specs.Strips.{byte_at}
 use Rattle.masks.specs.Masks.{lane_in}
-use Rattle.lane_rules.specs.Steps.{error_met, refreshed, compared}
-use Rattle.lane_rules.specs.Passes.{Pass, by_said, failed, try_lane, refreshed_from, refreshed_pass}
-use Rattle.lane_rules.specs.Rounds.{Round, Ended, pass_with, round, rounds}
+use Rattle.lane_rules.specs.Steps.{refreshed}
+use Rattle.lane_rules.specs.Passes.{Pass, failed, try_lane, refreshed_from}
+use Rattle.lane_rules.specs.Rounds.{Round, Ended, round, rounds}
 use Rattle.lane_laws.proofs.Cases.{by_pairs}
 use Rattle.lane_laws.proofs.Reading.{begun}
 
@@ -32,7 +32,8 @@ module _ (strip : List ℕ) (k : ℕ) where
 
   -- one lane of a refreshed pass
   try_ahead :
-      (window lane : ℕ) (p : Pass) → try_lane strip window lane (pass_ahead k p) ≡ pass_ahead k (try_lane (drop k strip) window lane p)
+      (window lane : ℕ) (p : Pass) →
+      try_lane strip window lane (pass_ahead k p) ≡ pass_ahead k (try_lane (drop k strip) window lane p)
   unfolding try_lane
   try_ahead window lane p =
       let more : k + p.read + 1 ≡ k + (p.read + 1) = omega arith in
@@ -56,7 +57,8 @@ module _ (strip : List ℕ) (k : ℕ) where
   round_from_ahead height attached window read =
       let f = refreshed (byte_at (drop k strip) read) attached window in
       let more : k + read + 1 ≡ k + (read + 1) = omega arith in
-      rw (byte_ahead read, more, refreshed_from_ahead height f.window (begun f.attached (read + 1))) (go (is_err f.said) _ _)
+      let p = begun f.attached (read + 1) in
+      rw (byte_ahead read, more, refreshed_from_ahead height f.window p) (go (is_err f.said) _ _)
     where
       go : (b : Bool) (x y : Round) → cond b (round_ahead k x) (round_ahead k y) ≡ round_ahead k (cond b x y)
       go true x y = refl
@@ -65,7 +67,8 @@ module _ (strip : List ℕ) (k : ℕ) where
   -- and so many rounds
   pub rounds_ahead :
       (height left made attached window read : ℕ) →
-      rounds strip height left made attached window (k + read) ≡ ended_ahead k (rounds (drop k strip) height left made attached window read)
+      rounds strip height left made attached window (k + read)
+      ≡ ended_ahead k (rounds (drop k strip) height left made attached window read)
   unfolding rounds
   rounds_ahead height zero made attached window read = refl
   rounds_ahead height (suc left) made attached window read =

@@ -125,7 +125,8 @@ module _ {strip : List ℕ} {lent : ℕ} {start : View} {rest : List ℕ} {now :
         let left : lent + 1 - next ≡ suc (lent - next) = omega arith in
         let made : next - 1 + 1 ≡ next = omega arith in
         z.is
-        ∙ (ap (λ (n : ℕ). rounds strip start.height n (next - 1) now.attached now.window z.read) left ∙ rw (made, here, e.0, e.1))
+        ∙ (ap (λ (n : ℕ). rounds strip start.height n (next - 1) now.attached now.window z.read) left
+        ∙ rw (made, here, e.0, e.1))
 
     -- nothing but the masks has changed
     same : SameElse start w

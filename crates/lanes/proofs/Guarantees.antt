@@ -175,7 +175,8 @@ module _ (v : View) (strip : List ℕ) (lent : ℕ) (r : Done) (p : DetachPromis
   -- 24 exactly where an error byte was read
   pub offset_exactly :
       entry_checks v strip ≡ Ok tt →
-      ((n : ℕ) × (r.answer ≡ Err (Failure.Offset n))) ↔ ((i : ℕ) × (i < (detach_work v strip lent).read) × (1 < byte_at strip i))
+      ((n : ℕ) × (r.answer ≡ Err (Failure.Offset n)))
+      ↔ ((i : ℕ) × (i < (detach_work v strip lent).read) × (1 < byte_at strip i))
   offset_exactly c =
       so
       (λ (o : Done). ((n : ℕ) × (o.answer ≡ Err (Failure.Offset n)))

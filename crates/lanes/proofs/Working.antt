@@ -1,5 +1,5 @@
 -- What each way that the work of a call can go comes to.
-use Rattle.std.proofs.Common.{◌≡◌, ℕ, List, Bool, true, false, cond, Result, Ok, Err, refl, ap}
+use Rattle.std.proofs.Common.{◌≡◌, ℕ, Bool, true, false, Result, Ok, Err, refl}
 use Rattle.std.specs.Int.{from_bool}
 use Rattle.lane_rules.specs.declared.ErrorByte.{ErrorByte}
 use Rattle.lane_rules.specs.declared.Failure.{Failure}
@@ -13,13 +13,15 @@ use Rattle.lane_laws.proofs.Cases.{failure_not_accepted}
 
 -- a refusal leaves the view as it was
 pub refused :
-    (v : View) (work : Done) (s c : Result Unit Failure) (a : Failure) (t : Result ℕ Failure) → s ≡ c → s ≡ Err a → t ≡ Err a →
+    (v : View) (work : Done) (s c : Result Unit Failure) (a : Failure) (t : Result ℕ Failure) → s ≡ c → s ≡ Err a →
+    t ≡ Err a →
     record { view = v; answer = t } ≡ unless_refused c v work
 refused v work s c a t e h k = rw (← e, h, k) refl
 
 -- and what passes goes on to the work
 pub worked :
-    (v : View) (work x : Done) (s c : Result Unit Failure) (u : Unit) → s ≡ c → s ≡ Ok u → x ≡ work → x ≡ unless_refused c v work
+    (v : View) (work x : Done) (s c : Result Unit Failure) (u : Unit) → s ≡ c → s ≡ Ok u → x ≡ work →
+    x ≡ unless_refused c v work
 worked v work x s c u e h k = rw (← e, h) k
 
 module _ (v x : View) (p : Pass) (s : Result Bool ErrorByte) (t : Result ℕ Failure) (e : s ≡ p.said)

@@ -20,7 +20,7 @@ fn cached_answer(mut strip: &[u8], view: &mut View) -> Answer
     Ok(u32::from(cached_pass(&mut strip, view)?))
 }
 
-// The refreshed pass, unless a check refuses it.
+// The refreshed pass, unless a check refuses it. One function for both passes, which is given the checks and the pass, is no plainer.
 fn refreshed_answer(mut strip: &[u8], view: &mut View) -> Answer
     ensures { record { view = view.new; answer = result } ≡ refreshed_of view.old strip.now }
 {

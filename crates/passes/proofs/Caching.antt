@@ -4,8 +4,8 @@ use Rattle.strips.specs.Strips.{byte_at}
 use Rattle.masks.specs.Masks.{lane_in}
 use Rattle.lane_rules.specs.declared.ErrorByte.{ErrorByte}
 use Rattle.lane_rules.specs.declared.View.{View}
-use Rattle.lane_rules.specs.Steps.{error_met, Compared, compared}
-use Rattle.lane_rules.specs.Passes.{Pass, by_said, cached_pass}
+use Rattle.lane_rules.specs.Steps.{error_met, compared}
+use Rattle.lane_rules.specs.Passes.{by_said, cached_pass}
 use Rattle.lane_laws.specs.Ends.{cached_work}
 use Rattle.passes.proofs.Standing.{Standing, Ends, standing_start, next_at, standing_next, ends}
 
@@ -18,7 +18,8 @@ pub record Caching (strip : List ℕ) (start : View) (rest : List ℕ) (now : Vi
 pub caching_start : (strip : List ℕ) (start : View) → Caching strip start strip start start.height
 caching_start strip start = record { read = 0; standing = standing_start strip start; is = refl }
 
-module _ {strip : List ℕ} {start : View} {rest : List ℕ} {now : View} {lane : ℕ} (z : Caching strip start rest now lane) where
+module _ {strip : List ℕ} {start : View} {rest : List ℕ} {now : View} {lane : ℕ}
+    (z : Caching strip start rest now lane) where
   -- all lanes are done
   pub caching_end : lane ≡ 0 → Ends strip start rest now (Ok true) (cached_work start strip)
   unfolding cached_pass
@@ -31,7 +32,8 @@ module _ {strip : List ℕ} {start : View} {rest : List ℕ} {now : View} {lane 
         z.is ∙ ap (λ (n : ℕ). cached_pass strip n now.window now.attached z.read) top
 
     -- a lane outside the window
-    pub caching_outside : lane_in now.window (lane - 1) ≡ false → Ends strip start rest now (Ok false) (cached_work start strip)
+    pub caching_outside :
+        lane_in now.window (lane - 1) ≡ false → Ends strip start rest now (Ok false) (cached_work start strip)
     unfolding cached_pass
     caching_outside i = ends z.standing (Ok false) _ (turn ∙ rw i)
 

@@ -55,7 +55,8 @@ module _ {strip : List ℕ} {start : View} {rest : List ℕ} {now : View} {untri
         (e : record { said = said; attached = attached } ≡ compared byte (lane - 1) now.attached) where
       -- whether it was cleared or not
       pub refreshing_tried :
-          (cleared : Bool) → said ≡ Ok cleared → Refreshing strip start next (record now { attached = attached }) false (lane - 1)
+          (cleared : Bool) → said ≡ Ok cleared →
+          Refreshing strip start next (record now { attached = attached }) false (lane - 1)
       unfolding try_lane
       refreshing_tried true s =
           record {
@@ -72,7 +73,8 @@ module _ {strip : List ℕ} {start : View} {rest : List ℕ} {now : View} {untri
 
       -- an error was met
       pub refreshing_error :
-          said ≡ error_met → Ends strip start next (record now { attached = attached }) error_met (refreshed_work start strip)
+          said ≡ error_met →
+          Ends strip start next (record now { attached = attached }) error_met (refreshed_work start strip)
       unfolding try_lane
       refreshing_error s =
           ends (standing_next z.standing next attached d) error_met _

@@ -4,7 +4,6 @@ use Rattle.std.proofs.lemmas.List.{get_or-drop, drop-drop}
 use Rattle.strips.specs.Strips.{byte_at}
 use Rattle.lane_rules.specs.declared.ErrorByte.{ErrorByte}
 use Rattle.lane_rules.specs.declared.View.{View}
-use Rattle.lane_rules.specs.Steps.{Compared}
 use Rattle.lane_rules.specs.Passes.{Pass}
 use Rattle.lane_rules.specs.Calls.{view_with}
 
@@ -25,7 +24,8 @@ pub record Standing (strip : List ℕ) (start : View) (rest : List ℕ) (now : V
 pub standing_start : (strip : List ℕ) (start : View) → Standing strip start strip start 0
 standing_start strip start = record { left = refl; same = refl }
 
-module _ {strip : List ℕ} {start : View} {rest : List ℕ} {now : View} {read : ℕ} (z : Standing strip start rest now read) where
+module _ {strip : List ℕ} {start : View} {rest : List ℕ} {now : View} {read : ℕ}
+    (z : Standing strip start rest now read) where
   -- the next byte
   pub next_at : (byte : ℕ) → byte ≡ byte_at rest 0 → byte ≡ byte_at strip read
   next_at byte e = let at : read + 0 ≡ read = omega arith in rw (e, z.left, get_or-drop read strip 0 0, at) refl

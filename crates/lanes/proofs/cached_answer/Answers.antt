@@ -15,13 +15,13 @@ unfolding cached_of
 returns-in_err-cached_pass c =
     let work = cached_work c.args.view.now c.args.strip.now in
     worked _ _ _ _ _ _ c.entry_checks.ensures c.in_ok-entry_checks.was
-    (pass_failed c.args.view.now _ work _ _ c.cached_pass.ensures.said c.cached_pass.ensures.view c.in_err-cached_pass.was
-    (search rules))
+    (pass_failed c.args.view.now _ work _ _ c.cached_pass.ensures.said c.cached_pass.ensures.view
+    c.in_err-cached_pass.was (search rules))
 
 pub returns : goal.returns
 unfolding cached_of
 returns c =
     let work = cached_work c.args.view.now c.args.strip.now in
     worked _ _ _ _ _ _ c.entry_checks.ensures c.in_ok-entry_checks.was
-    (pass_told c.args.view.now _ work _ _ c.cached_pass.ensures.said c.cached_pass.ensures.view _ c.in_ok-cached_pass.was
-    (search rules))
+    (pass_told c.args.view.now _ work _ _ c.cached_pass.ensures.said c.cached_pass.ensures.view
+    _ c.in_ok-cached_pass.was (search rules))

@@ -15,7 +15,8 @@ unfolding detach_of
 returns-in_err-made c =
     let work = detach_work c.args.view.now c.args.strip.now c.args.rounds in
     worked _ _ _ _ _ _ c.entry_checks.ensures c.in_ok-entry_checks.was
-    (detach_failed c.args.view.now _ work _ c.detach.ensures.answer c.detach.ensures.view _ _ c.in_err-made.was (search rules))
+    (detach_failed c.args.view.now _ work _ c.detach.ensures.answer c.detach.ensures.view
+    _ _ c.in_err-made.was (search rules))
 
 pub returns : goal.returns
 unfolding detach_of

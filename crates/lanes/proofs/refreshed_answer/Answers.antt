@@ -15,13 +15,13 @@ unfolding refreshed_of
 returns-in_err-refreshed_pass c =
     let work = refreshed_work c.args.view.now c.args.strip.now in
     worked _ _ _ _ _ _ c.refreshed_checks.ensures c.in_ok-refreshed_checks.was
-    (pass_failed c.args.view.now _ work _ _ c.refreshed_pass.ensures.said c.refreshed_pass.ensures.view c.in_err-refreshed_pass.was
-    (search rules))
+    (pass_failed c.args.view.now _ work _ _ c.refreshed_pass.ensures.said c.refreshed_pass.ensures.view
+    c.in_err-refreshed_pass.was (search rules))
 
 pub returns : goal.returns
 unfolding refreshed_of
 returns c =
     let work = refreshed_work c.args.view.now c.args.strip.now in
     worked _ _ _ _ _ _ c.refreshed_checks.ensures c.in_ok-refreshed_checks.was
-    (pass_told c.args.view.now _ work _ _ c.refreshed_pass.ensures.said c.refreshed_pass.ensures.view _ c.in_ok-refreshed_pass.was
-    (search rules))
+    (pass_told c.args.view.now _ work _ _ c.refreshed_pass.ensures.said c.refreshed_pass.ensures.view
+    _ c.in_ok-refreshed_pass.was (search rules))

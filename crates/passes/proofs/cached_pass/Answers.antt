@@ -14,23 +14,23 @@ returns-then-not-lane_in c =
 pub returns-in_err-compare : goal.returns-in_err-compare
 returns-in_err-compare c =
     let inside = sym c.lane_in.ensures ∙ c.if-not-lane_in.false in
-    let k = caching_error c.loop-lane.invariant c.loop-lane-test.true c.next_byte.result c.compare.new.attached c.compare.result _
-    inside c.next_byte.ensures.byte c.next_byte.ensures.strip c.compare.ensures c.in_err-compare.was in
+    let k = caching_error c.loop-lane.invariant c.loop-lane-test.true c.next_byte.result c.compare.new.attached
+    c.compare.result _ inside c.next_byte.ensures.byte c.next_byte.ensures.strip c.compare.ensures c.in_err-compare.was in
     record { said = one_error _ c.from_residual.ensures.0 ∙ k.0; view = k.1; strip = k.2 }
 
 pub returns-then-not-branch : goal.returns-then-not-branch
 returns-then-not-branch c =
     let inside = sym c.lane_in.ensures ∙ c.if-not-lane_in.false in
-    let k = caching_no c.loop-lane.invariant c.loop-lane-test.true c.next_byte.result c.compare.new.attached c.compare.result _
-    inside c.next_byte.ensures.byte c.next_byte.ensures.strip c.compare.ensures
+    let k = caching_no c.loop-lane.invariant c.loop-lane-test.true c.next_byte.result c.compare.new.attached
+    c.compare.result _ inside c.next_byte.ensures.byte c.next_byte.ensures.strip c.compare.ensures
     (rw (← c.if-not-branch.true) c.in_ok-compare.was) in
     record { said = k.0; view = k.1; strip = k.2 }
 
 pub loop-lane-preserved : goal.loop-lane-preserved
 loop-lane-preserved c =
     let inside = sym c.lane_in.ensures ∙ c.if-not-lane_in.false in
-    caching_yes c.loop-lane.invariant c.loop-lane-test.true c.next_byte.result c.compare.new.attached c.compare.result _
-    inside c.next_byte.ensures.byte c.next_byte.ensures.strip c.compare.ensures
+    caching_yes c.loop-lane.invariant c.loop-lane-test.true c.next_byte.result c.compare.new.attached
+    c.compare.result _ inside c.next_byte.ensures.byte c.next_byte.ensures.strip c.compare.ensures
     (rw (← c.if-not-branch.false) c.in_ok-compare.was)
 
 pub returns : goal.returns
