@@ -1,6 +1,6 @@
-// Runs the bucket calls on the cases that its input lists, and writes a line for each: the call and the case's name; then of
-// the two engines the answer, what it names and the whole output after it, and of the bitmap the whole scratch too; of the
-// stamp test yes or no. What the input may say, and how lists are written, stands in crate `case_text`.
+// Runs the bucket calls on the cases that its input lists, and writes a line for each: the call and the case's name; then
+// of the two engines the answer, what it names and the whole output after it, and of the bitmap the whole scratch too; of
+// the stamp test yes or no. What the input may say, and how lists are written, stands in crate `case_text`.
 #![tactic(auto)]
 
 use bucket_rules::Answer;
@@ -19,9 +19,9 @@ enum Call {
     Precedes,
 }
 
-/// The lists: the bucket count, for the stamp test two numbers of 64 bits, each said as its high half and its low half, and the three
-/// lists that are lent to the engines. Each of these has room for somewhat more than the rules allow or ask for, so that the cases can
-/// go beyond them.
+/// The lists: the bucket count, for the stamp test two numbers of 64 bits, each said as its high half and its low half, and
+/// the three lists that are lent to the engines. Each of these has room for somewhat more than the rules allow or ask for,
+/// so that the cases can go beyond them.
 #[derive(Drop)]
 struct Lists {
     count: [u32; 1],

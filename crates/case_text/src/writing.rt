@@ -14,8 +14,8 @@ fn write_run<W: fmt::Write>(f: &mut fmt::Formatter<W>, run: &[u32]) -> fmt::Resu
     }
 }
 
-/// Writes of a long list its length, the sum of its numbers, and the sum of the sums on the way, which depends on each number
-/// and its place. The lists of these programs are too short for either sum to wrap.
+/// Writes of a long list its length, the sum of its numbers, and the sum of the sums on the way, which depends on each
+/// number and its place. The lists of these programs are too short for either sum to wrap.
 fn write_sums<W: fmt::Write>(f: &mut fmt::Formatter<W>, numbers: &[u32]) -> fmt::Result {
     let (sum, sums) = numbers.iter().fold((0u64, 0u64), |(sum, sums), number| {
         let sum = sum.wrapping_add(u64::from(*number));

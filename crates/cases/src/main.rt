@@ -21,8 +21,8 @@ enum Call {
     Count,
 }
 
-/// The lists: the head's numbers as they stand in `Head`, what a count asks for (binding, key), and the five lists that are lent to
-/// the calls. Each has room for somewhat more than the rules allow, so that the cases can go beyond them.
+/// The lists: the head's numbers as they stand in `Head`, what a count asks for (binding, key), and the five lists that are
+/// lent to the calls. Each has room for somewhat more than the rules allow, so that the cases can go beyond them.
 #[derive(Drop)]
 struct Lists {
     head: [u32; 3],
@@ -97,7 +97,8 @@ fn write_answer<W: Write>(out: &mut W, done: Done) -> io::Result<()> {
     Ok(())
 }
 
-/// Writes what a call left in the head, the table and the record list. A count leaves all as it was, and two calls the record.
+/// Writes what a call left in the head, the table and the record list. A count leaves all as it was, and two calls the
+/// record.
 fn write_state<W: Write>(
     out: &mut W,
     call: Call,

@@ -1,6 +1,6 @@
-// Runs the lane calls on the cases that its input lists, and writes a line for each: the call and the case's name, the answer
-// and its value, and the view after it (height, guarded flag, retired flag, attached lanes, window). What the input may say
-// stands in crate `case_text`.
+// Runs the lane calls on the cases that its input lists, and writes a line for each: the call and the case's name, the
+// answer and its value, and the view after it (height, guarded flag, retired flag, attached lanes, window). What the input
+// may say stands in crate `case_text`.
 #![tactic(auto)]
 
 use case_text::cases::Cases;
@@ -18,8 +18,9 @@ enum Call {
     Detach,
 }
 
-/// The lists: the view's numbers as they stand in `View`, the number of rounds that a detach is lent, the pinned contents, and the
-/// strip. Contents and strip have room for somewhat more than the rules allow, so that the cases can go beyond them.
+/// The lists: the view's numbers as they stand in `View`, the number of rounds that a detach is lent, the pinned contents,
+/// and the strip. Contents and strip have room for somewhat more than the rules allow, so that the cases can go beyond
+/// them.
 #[derive(Drop)]
 struct Lists {
     view: [u32; 5],
