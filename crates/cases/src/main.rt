@@ -89,7 +89,7 @@ impl Lists {
 
 /// Writes the answer, and what it names: answer 7 names two changes.
 fn write_answer<W: Write>(out: &mut W, done: Done) -> io::Result<()> {
-    let told = answers::tell(done.answer);
+    let told = rules::Told::from(done.answer);
     write!(out, ": answer {} names {}", told.answer, told.named)?;
     if told.answer == 7 {
         write!(out, " {}", told.other)?;

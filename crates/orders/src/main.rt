@@ -69,7 +69,7 @@ fn run<R: Print + AllocGlobal>(rt: &R, order: Order<'_>) -> io::Result<()> {
         order.strip,
         &mut record,
     );
-    let told = answers::tell(done.answer);
+    let told = rules::Told::from(done.answer);
     println!(rt;
         "{} {} {} {}",
         order.letter, told.answer, done.head.used, done.head.poisoned
