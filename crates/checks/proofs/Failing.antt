@@ -1,15 +1,15 @@
 -- The first element that fails its test, among changes (answer 6).
+use Rattle.std.proofs.Common.{Ok}
 use Prim.Native.Nat.{ℕ, ◌+◌, ◌<◌, ◌≤◌}
 use mathlib.Core.Path.{◌≡◌}
 use mathlib.Core.List.{List}
 use mathlib.Core.Bool.{Bool}
 use lib.ListN.{length, drop, get_or, drop_of_length-le}
-use Rattle.rules.specs.declared.Answer.{Answer}
-use Rattle.rules.specs.declared.Verdict.{Verdict}
+use Rattle.rules.specs.declared.Failure.{Failure}
 use Rattle.rules.specs.Checks.{must, or_else, first_failing}
 use Rattle.laws.proofs.Left.{item_left}
 
-module _ {A : Type 0} (none : A) (test : A → Bool) (answer : ℕ → A → Answer) (xs : List A) (i : ℕ) where
+module _ {A : Type 0} (none : A) (test : A → Bool) (answer : ℕ → A → Failure) (xs : List A) (i : ℕ) where
   -- x was read at place i
   pub failing_left :
       (x : A) (b : Bool) → i < length xs → x ≡ get_or xs i none → test x ≡ b →
@@ -17,6 +17,6 @@ module _ {A : Type 0} (none : A) (test : A → Bool) (answer : ℕ → A → Ans
   unfolding first_failing
   failing_left x b h r e = rw (item_left none xs i h, ← r, e)
 
-  pub failing_none : length xs ≤ i → first_failing test answer i (drop i xs) ≡ Verdict.Passes
+  pub failing_none : length xs ≤ i → first_failing test answer i (drop i xs) ≡ Ok tt
   unfolding first_failing
   failing_none h = rw (drop_of_length-le xs h)

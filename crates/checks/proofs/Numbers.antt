@@ -1,4 +1,5 @@
 -- Answer 14: the record from a place on, the numbers behind it, and why they stay few.
+use Rattle.std.proofs.Common.{Result, Ok, Err}
 use Prim.Native.Nat.{ℕ, zero, suc, ◌+◌, ◌<◌, ◌≤◌}
 use native.Mathlib.Numerals.{add-one}
 use native.Mathlib.Omega.{arith}
@@ -11,8 +12,7 @@ use lib.Seq.{take-suc, length-take-le, get_or-take}
 use lib.Dec.{eqb, ltb}
 use borrow.Author.Tests.{ltb-true, lt-ltb, le-ltb}
 use Rattle.rules.specs.declared.Change.{Change}
-use Rattle.rules.specs.declared.Answer.{Answer}
-use Rattle.rules.specs.declared.Verdict.{Verdict}
+use Rattle.rules.specs.declared.Failure.{Failure}
 use Rattle.rules.specs.Orders.{destination_of, no_change}
 use Rattle.rules.specs.Checks.{must, or_else, is_named, recordable, record_from}
 use Rattle.lent_lists.specs.Among.{among}
@@ -56,7 +56,7 @@ behind zero l = []
 behind (suc place) l = get_or l place 0 ∷ behind place l
 
 -- what the check says of the record from a place on
-abbrev pub record_left : List Change → List ℕ → ℕ → Verdict
+abbrev pub record_left : List Change → List ℕ → ℕ → Result Unit Failure
 record_left cs l place = record_from place cs (behind place l) (drop place l)
 
 length_behind : (place : ℕ) (l : List ℕ) → length (behind place l) ≡ place
@@ -83,7 +83,7 @@ few_places bound place l f =
 module _ (cs : List Change) (l : List ℕ) (place : ℕ) (h : place < length l) where
   record_left_lem :
       (b : Bool) → (recordable cs (get_or l place 0) && not (among (get_or l place 0) (take place l))) ≡ b →
-      record_left cs l place ≡ or_else (must b (Answer.Record place)) (record_left cs l (place + 1))
+      record_left cs l place ≡ or_else (must b (Failure.Record place)) (record_left cs l (place + 1))
   unfolding record_from behind
   record_left_lem b e =
       let k : place ≤ length l = omega arith in
@@ -96,12 +96,12 @@ module _ (cs : List Change) (l : List ℕ) (place : ℕ) (h : place < length l) 
 
   pub record_means_nothing :
       recordable cs (get_or l place 0) ≡ false →
-      record_left cs l place ≡ Verdict.Refused (Answer.Record place)
+      record_left cs l place ≡ Err (Failure.Record place)
   record_means_nothing r = record_left_lem false (rw r)
 
   pub record_repeats :
       among (get_or l place 0) (take place l) ≡ true →
-      record_left cs l place ≡ Verdict.Refused (Answer.Record place)
+      record_left cs l place ≡ Err (Failure.Record place)
   record_repeats a = record_left_lem false (rw (a, and-false))
 
   -- a number that passes keeps the numbers behind few
@@ -122,6 +122,6 @@ pub record_all : (cs : List Change) (l : List ℕ) → record_from 0 cs [] l ≡
 unfolding behind
 record_all cs l = refl
 
-pub record_none : (cs : List Change) (l : List ℕ) (place : ℕ) → length l ≤ place → record_left cs l place ≡ Verdict.Passes
+pub record_none : (cs : List Change) (l : List ℕ) (place : ℕ) → length l ≤ place → record_left cs l place ≡ Ok tt
 unfolding record_from
 record_none cs l place h = rw (drop_of_length-le l h)

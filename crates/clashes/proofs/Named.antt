@@ -1,15 +1,14 @@
 -- The first posting that is marked, among those that changes name (7, 8 and 9); and a posting looked for among the destinations
 -- (9).
+use Rattle.std.proofs.Common.{Option, Some, None, Result, Ok, ℕ}
 use Prim.Native.Nat.{ℕ, ◌+◌, ◌<◌, ◌≤◌}
 use mathlib.Core.Path.{◌≡◌, refl, ap, ◌∙◌}
 use mathlib.Core.List.{List, [], ◌∷◌}
 use mathlib.Core.Bool.{Bool, false, not, ◌||◌}
 use lib.ListN.{length, drop, get_or}
 use Rattle.rules.specs.declared.Posting.{Posting}
-use Rattle.rules.specs.declared.Key.{Key}
 use Rattle.rules.specs.declared.Change.{Change}
-use Rattle.rules.specs.declared.Answer.{Answer}
-use Rattle.rules.specs.declared.Verdict.{Verdict}
+use Rattle.rules.specs.declared.Failure.{Failure}
 use Rattle.rules.specs.Postings.{same, present}
 use Rattle.rules.specs.Orders.{destination_of, source_of, Numbered, named, destinations_from, sources_from, postings_of, no_change}
 use Rattle.rules.specs.Checks.{must, or_else, first_failing}
@@ -19,25 +18,25 @@ use Rattle.clashes.specs.Keys.{under_key, goes_to}
 
 -- an answer that does not speak of the place is the same from any place on
 any_place :
-    {A : Type 0} (test : A → Bool) (answer : A → Answer) (i j : ℕ) (xs : List A) →
+    {A : Type 0} (test : A → Bool) (answer : A → Failure) (i j : ℕ) (xs : List A) →
     first_failing test (λ k x. answer x) i xs ≡ first_failing test (λ k x. answer x) j xs
 unfolding first_failing
 any_place test answer i j [] = refl
 any_place test answer i j (x ∷ xs) = ap (or_else (must (test x) (answer x))) (any_place test answer (i + 1) (j + 1) xs)
 
 -- the first posting that is marked, answered with the number of its change
-abbrev pub first_of : (Posting → Bool) → (ℕ → Answer) → List Numbered → Verdict
+abbrev pub first_of : (Posting → Bool) → (ℕ → Failure) → List Numbered → Result Unit Failure
 first_of marked answer ds =
     first_failing (λ (d : Numbered). not (marked d.posting)) (λ i (d : Numbered). answer d.number) 0 ds
 
-module _ (marked : Posting → Bool) (answer : ℕ → Answer) where
+module _ (marked : Posting → Bool) (answer : ℕ → Failure) where
   first_named :
-      (i : ℕ) (c : Change) (key : Key) (others : List Numbered) →
+      (i : ℕ) (c : Change) (key : Option ℕ) (others : List Numbered) →
       first_of marked answer (named i c key others) ≡ or_else (must (not (under_key c key marked)) (answer i))
       (first_of marked answer others)
   unfolding first_failing
-  first_named i c Key.Missing others = refl
-  first_named i c (Key.Named key) others =
+  first_named i c None others = refl
+  first_named i c (Some key) others =
       ap (or_else (must (not (marked (record { binding = c.binding; key = key; row = c.row }))) (answer i)))
       (any_place (λ (d : Numbered). not (marked d.posting)) (λ (d : Numbered). answer d.number) (0 + 1) 0 others)
 
@@ -61,23 +60,23 @@ module _ (marked : Posting → Bool) (answer : ℕ → Answer) where
         (first_named i c (source_of c) (sources_from (i + 1) (drop (i + 1) cs)) ∙ rw e)
 
     -- past the last change no destination is marked
-    pub no_destination : length cs ≤ i → first_of marked answer (destinations_from i (drop i cs)) ≡ Verdict.Passes
+    pub no_destination : length cs ≤ i → first_of marked answer (destinations_from i (drop i cs)) ≡ Ok tt
     unfolding first_failing
     no_destination h = rw (destinations_none cs i h)
 
     -- nor is a source
-    pub no_source : length cs ≤ i → first_of marked answer (sources_from i (drop i cs)) ≡ Verdict.Passes
+    pub no_source : length cs ≤ i → first_of marked answer (sources_from i (drop i cs)) ≡ Ok tt
     unfolding first_failing
     no_source h = rw (sources_none cs i h)
 
 -- the destinations from a change on, among which p is looked for
 module _ (p : Posting) where
   present_named :
-      (i : ℕ) (c : Change) (key : Key) (others : List Numbered) →
+      (i : ℕ) (c : Change) (key : Option ℕ) (others : List Numbered) →
       present p (postings_of (named i c key others)) ≡ (under_key c key (λ d. same d p) || present p (postings_of others))
   unfolding present
-  present_named i c Key.Missing others = refl
-  present_named i c (Key.Named key) others =
+  present_named i c None others = refl
+  present_named i c (Some key) others =
       ap (λ b. b || present p (postings_of others)) (same_turned p (record { binding = c.binding; key = key; row = c.row }))
 
   -- p is among those from change i on exactly if change i goes to it or it is among those after

@@ -1,5 +1,6 @@
 -- A list of guards and its flat numbers; the walks over guards and over the keys that an order asks for, from a place on; and
 -- that the first place whose key is not held belongs to the first such change.
+use Rattle.std.proofs.Common.{Option, Some, None, Ok, ℕ}
 use Prim.Native.Nat.{ℕ, zero, suc, ◌+◌, ◌*◌, ◌/◌, ◌%◌, ◌-◌, ◌<◌, ◌≤◌}
 use native.Mathlib.Omega.{arith}
 use native.Mathlib.Numerals.{add-one}
@@ -11,11 +12,9 @@ use lib.Dec.{T, eqb, leb}
 use lib.ListN.{length, drop, get_or, drop_of_length-le}
 use lib.Seq.{drop-cons}
 use borrow.Author.Tests.{eq-eqb, ne_eqb}
-use Rattle.rules.specs.declared.Key.{Key}
 use Rattle.rules.specs.declared.Change.{Change}
 use Rattle.rules.specs.declared.Guard.{Guard}
 use Rattle.rules.specs.declared.Head.{Head}
-use Rattle.rules.specs.declared.Verdict.{Verdict}
 use Rattle.rules.specs.Limits.{most_changes, most_guards}
 use Rattle.rules.specs.Orders.{changes, guards, proper_changes, proper_guards, proper_lists, held, no_change}
 use Rattle.rules.specs.Checks.{key_held, guard_check, order_checks}
@@ -109,9 +108,9 @@ asked_within poisoned n list place l = go (eqb poisoned 0 && (leb (length (chang
     go true h = h
     go false h = absurd (omega arith)
 
-wanted_held_lem : (gs : List Guard) (binding : ℕ) (key : Key) → wanted_held gs (wanted_of binding key) ≡ key_held binding key gs
-wanted_held_lem gs binding Key.Missing = refl
-wanted_held_lem gs binding (Key.Named key) = refl
+wanted_held_lem : (gs : List Guard) (binding : ℕ) (key : Option ℕ) → wanted_held gs (wanted_of binding key) ≡ key_held binding key gs
+wanted_held_lem gs binding None = refl
+wanted_held_lem gs binding (Some key) = refl
 
 -- the two places of change i
 module _ (gs : List Guard) (cs : List Change) (i : ℕ) where
@@ -157,7 +156,7 @@ unheld_change gs cs (suc m) i e =
 -- where 1 to 5 pass, what was found of the guards is what 6 finds by their flat numbers
 pub guards_found :
     (head : Head) (table list : List ℕ) (gs : List Guard) (strip record_list : List ℕ) →
-    order_checks head table list (leb (length gs) most_guards) strip record_list ≡ Verdict.Passes →
+    order_checks head table list (leb (length gs) most_guards) strip record_list ≡ Ok tt →
     bindings_from head.bindings (unheld_place head.poisoned gs list / 2) 0 (changes list) ≡ guard_check head.bindings (guards (flat gs)) (changes list)
 unfolding proper_lists guard_check
 guards_found head table list gs strip record_list h =

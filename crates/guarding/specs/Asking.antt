@@ -1,6 +1,5 @@
 -- The held guards as a list of guards, and what an order asks of them.
-use Rattle.std.specs.Prelude.{ℕ, zero, suc, ◌*◌, ◌/◌, ◌%◌, List, [], ◌∷◌, Bool, true, false, cond, ◌&&◌, length, get_or, eqb, leb}
-use Rattle.rules.specs.declared.Key.{Key}
+use Rattle.std.specs.Prelude.{ℕ, zero, suc, ◌*◌, ◌/◌, ◌%◌, List, [], ◌∷◌, Bool, true, false, cond, ◌&&◌, length, get_or, eqb, leb, Option, Some, None}
 use Rattle.rules.specs.declared.Change.{Change}
 use Rattle.rules.specs.declared.Guard.{Guard}
 use Rattle.rules.specs.Limits.{most_changes, most_guards}
@@ -13,9 +12,9 @@ flat [] = []
 flat (g ∷ gs) = g.binding ∷ g.key ∷ flat gs
 
 -- a change's key, or none, as it is asked for
-abbrev pub wanted_of : ℕ → Key → Wanted
-wanted_of binding Key.Missing = record { named = false; binding = binding; key = 0 }
-wanted_of binding (Key.Named key) = record { named = true; binding = binding; key = key }
+abbrev pub wanted_of : ℕ → Option ℕ → Wanted
+wanted_of binding None = record { named = false; binding = binding; key = 0 }
+wanted_of binding (Some key) = record { named = true; binding = binding; key = key }
 
 -- the before of a change stands at an even place, its after at the next
 abbrev pub wanted_at : List Change → ℕ → Wanted

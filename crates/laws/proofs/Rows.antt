@@ -9,7 +9,7 @@ use mathlib.Mathlib.Data.Bool.Basic.{and_elim_left, and_elim_right, and_intro}
 use lib.Dec.{eqb}
 use borrow.Author.Tests.{eqb-true, eq-eqb, le-leb}
 use Rattle.rules.specs.declared.Posting.{Posting}
-use Rattle.rules.specs.declared.Order.{Order}
+use Rattle.std.specs.declared.cmp.Ordering.{Ordering}
 use Rattle.rules.specs.Postings.{ranked, compared, same, chain, ascending, present, rows_under}
 use Rattle.lent_lists.specs.Among.{among}
 use Rattle.laws.specs.Words.{rising}
@@ -60,20 +60,20 @@ rows_among binding key row (q ∷ qs) =
 
 -- of two postings of one binding and key the earlier has the lower row
 before_row :
-    (p q : Posting) → compared p q ≡ Order.Before → p.binding ≡ q.binding → p.key ≡ q.key → p.row < q.row
+    (p q : Posting) → compared p q ≡ Ordering.Less → p.binding ≡ q.binding → p.key ≡ q.key → p.row < q.row
 unfolding compared
 before_row p q h b k = go (tri p.row q.row)
   where
-    rows : ranked p.row q.row Order.Same ≡ Order.Before
+    rows : ranked p.row q.row Ordering.Equal ≡ Ordering.Less
     rows =
         sym (ranked_equal p.key q.key _ k) ∙ (sym (ranked_equal p.binding q.binding _ b) ∙ h)
 
     go : Tri p.row q.row → p.row < q.row
     go (less l) = l
     go (equal e) =
-        impossible (cc (ranked_equal p.row q.row Order.Same e, rows))
+        impossible (cc (ranked_equal p.row q.row Ordering.Equal e, rows))
     go (more m) =
-        impossible (cc (ranked_more p.row q.row Order.Same m, rows))
+        impossible (cc (ranked_more p.row q.row Ordering.Equal m, rows))
 
 rising_after :
     (binding key : ℕ) (p : Posting) (ps : List Posting) → binding ≡ p.binding → key ≡ p.key → chain p ps ≡ true →

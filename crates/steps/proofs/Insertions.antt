@@ -1,4 +1,5 @@
 -- Prepare: the turns of its walk up the changes, and its end where a change could not be inserted.
+use Rattle.std.proofs.Common.{Option, Some, None, Result, Ok, Err, ℕ}
 use Prim.Native.Nat.{ℕ, ◌+◌, ◌*◌, ◌<◌, ◌≤◌}
 use native.Mathlib.Omega.{arith}
 use native.Mathlib.Numerals.{add-one}
@@ -8,10 +9,8 @@ use lib.ListN.{length, drop, get_or}
 use Rattle.strips.specs.Strips.{byte_at}
 use Rattle.rules.specs.declared.Change.{Change}
 use Rattle.rules.specs.declared.Fault.{Fault}
-use Rattle.rules.specs.declared.Key.{Key}
 use Rattle.rules.specs.declared.Posting.{Posting}
-use Rattle.rules.specs.declared.Answer.{Answer}
-use Rattle.rules.specs.declared.Verdict.{Verdict}
+use Rattle.rules.specs.declared.Failure.{Failure}
 use Rattle.rules.specs.Table.{capacity, postings}
 use Rattle.rules.specs.Orders.{Numbered, named, destination_of, destinations_from, no_change}
 use Rattle.rules.specs.Storage.{insertion}
@@ -44,7 +43,7 @@ preparing_step :
     (capacity : ℕ) (strip : List ℕ) (d : Numbered) (ds done : List Numbered) (read : ℕ) (ps : List Posting) →
     preparing capacity strip (d ∷ ds) done read ps ≡
     by_fault (insertion (byte_at strip read) capacity d.posting ps).fault d.number
-    (undoing strip done Verdict.Passes (read + 1) (insertion (byte_at strip read) capacity d.posting ps).postings)
+    (undoing strip done (Ok tt) (read + 1) (insertion (byte_at strip read) capacity d.posting ps).postings)
     (preparing capacity strip ds (d ∷ done) (read + 1) (insertion (byte_at strip read) capacity d.posting ps).postings)
 unfolding preparing
 preparing_step capacity strip d ds done read ps = refl
@@ -63,34 +62,34 @@ prepare_start cs strip used t h =
     }
 
 -- no fault is blamed on no change, and the blame that there is ends the prepare
-none_blamed : (fault : Fault) (change : ℕ) → blamed_on fault change ≡ Verdict.Passes → fault ≡ Fault.Nothing
-none_blamed Fault.Nothing change e = refl
-none_blamed Fault.Store change e = impossible (cc)
-none_blamed Fault.Full change e = impossible (cc)
+none_blamed : (fault : Fault) (change : ℕ) → blamed_on fault change ≡ Ok tt → fault ≡ None
+none_blamed None change e = refl
+none_blamed (Some Fault.Store) change e = impossible (cc)
+none_blamed (Some Fault.Full) change e = impossible (cc)
 
 blamed_ends :
-    (fault : Fault) (change : ℕ) (why : Answer) → blamed_on fault change ≡ Verdict.Refused why → (back : Undone) (next : Stage) →
+    (fault : Fault) (change : ℕ) (why : Result ℕ Failure) → blamed_on fault change ≡ Err why → (back : Undone) (next : Stage) →
     by_fault fault change back next ≡ not_inserted why change back
-blamed_ends Fault.Nothing change why e back next = impossible (cc)
-blamed_ends Fault.Store change why e back next =
-    let same : Answer.Store change ≡ why = cc in ap (λ (a : Answer). not_inserted a change back) same
-blamed_ends Fault.Full change why e back next =
-    let same : Answer.Full change ≡ why = cc in ap (λ (a : Answer). not_inserted a change back) same
+blamed_ends None change why e back next = impossible (cc)
+blamed_ends (Some Fault.Store) change why e back next =
+    let same : Failure.Store change ≡ why = cc in ap (λ (a : Result ℕ Failure). not_inserted a change back) same
+blamed_ends (Some Fault.Full) change why e back next =
+    let same : Failure.Full change ≡ why = cc in ap (λ (a : Result ℕ Failure). not_inserted a change back) same
 
 -- one change further, the list of what is to be undone begins with its destination
 backward_more :
-    (cs : List Change) (i : ℕ) (c : Change) (k : Key) → c ≡ get_or cs i no_change → destination_of c ≡ k →
+    (cs : List Change) (i : ℕ) (c : Change) (k : Option ℕ) → c ≡ get_or cs i no_change → destination_of c ≡ k →
     backward in_order (i + 1) cs ≡ named i c k (backward in_order i cs)
 unfolding backward
 backward_more cs i c k ec e =
-    rw (add-one i, ← ec) (ap (λ (j : Key). named i c j (backward in_order i cs)) e)
+    rw (add-one i, ← ec) (ap (λ (j : Option ℕ). named i c j (backward in_order i cs)) e)
 
 module _ {cs : List Change} {strip : List ℕ} {used₀ : ℕ} {t₀ t : List ℕ} {used read inserted i : ℕ}
     (z : Preparing cs strip used₀ t₀ t used read inserted i) where
   pub prepare_end :
       length cs ≤ i →
       StageIn (preparing (capacity t₀) strip (destinations_from 0 cs) [] 0 (postings used₀ t₀))
-      (record { answer = Answer.Accepted inserted; used = used; read = read }) t (length cs * 2 + 1)
+      (record { answer = Ok inserted; used = used; read = read }) t (length cs * 2 + 1)
   unfolding preparing
   prepare_end h =
       let f = z.few in
@@ -98,11 +97,11 @@ module _ {cs : List Change} {strip : List ℕ} {used₀ : ℕ} {t₀ t : List �
       rw
       (z.is ∙ ap (λ ds. preparing (capacity t₀) strip ds (backward in_order i cs) read (postings used t))
       (destinations_none cs i h))
-      (record { answer = ap Answer.Accepted z.count; carries = z.ordered; read = refl; few = omega arith })
+      (record { answer = ap Ok z.count; carries = z.ordered; read = refl; few = omega arith })
 
   module _ (h : i < length cs) (c : Change) (ec : c ≡ get_or cs i no_change) where
     left :
-        (k : Key) → destination_of c ≡ k →
+        (k : Option ℕ) → destination_of c ≡ k →
         preparing (capacity t₀) strip (destinations_from 0 cs) [] 0 (postings used₀ t₀) ≡
         preparing (capacity t₀) strip (named i c k (destinations_from (i + 1) (drop (i + 1) cs))) (backward in_order i cs)
         read (postings used t)
@@ -110,13 +109,13 @@ module _ {cs : List Change} {strip : List ℕ} {used₀ : ℕ} {t₀ t : List �
         z.is
         ∙ (ap (λ ds. preparing (capacity t₀) strip ds (backward in_order i cs) read (postings used t)) (destinations_left cs i h)
         ∙ rw (← ec)
-        (ap (λ (j : Key). preparing (capacity t₀) strip (named i c j (destinations_from (i + 1) (drop (i + 1) cs))) (backward in_order i cs) read (postings used t)) e))
+        (ap (λ (j : Option ℕ). preparing (capacity t₀) strip (named i c j (destinations_from (i + 1) (drop (i + 1) cs))) (backward in_order i cs) read (postings used t)) e))
 
-    pub prepare_pass : destination_of c ≡ Key.Missing → Preparing cs strip used₀ t₀ t used read inserted (i + 1)
+    pub prepare_pass : destination_of c ≡ None → Preparing cs strip used₀ t₀ t used read inserted (i + 1)
     prepare_pass e =
         let f = z.few in
         let s = z.some in
-        let b = backward_more cs i c Key.Missing ec e in
+        let b = backward_more cs i c None ec e in
         record {
           low = omega arith;
           few = omega arith;
@@ -125,33 +124,33 @@ module _ {cs : List Change} {strip : List ℕ} {used₀ : ℕ} {t₀ t : List �
           len = z.len;
           ordered = z.ordered;
           is =
-              left Key.Missing e
+              left None e
               ∙ ap
               (λ done. preparing (capacity t₀) strip (destinations_from (i + 1) (drop (i + 1) cs)) done read (postings used t))
               (sym b);
         }
 
-    module _ (key byte : ℕ) (t' : List ℕ) (r : Inserted) (ek : destination_of c ≡ Key.Named key) (eb : byte ≡ byte_at strip read)
+    module _ (key byte : ℕ) (t' : List ℕ) (r : Inserted) (ek : destination_of c ≡ Some key) (eb : byte ≡ byte_at strip read)
         (o : InsertionIn (insertion byte (capacity t) (record { binding = c.binding; key = key; row = c.row }) (postings used t)) r t') where
       stepped :
           (fault : Fault) → r.fault ≡ fault →
           preparing (capacity t₀) strip (destinations_from 0 cs) [] 0 (postings used₀ t₀) ≡
-          by_fault fault i (undoing strip (backward in_order i cs) Verdict.Passes (read + 1) (postings r.used t'))
+          by_fault fault i (undoing strip (backward in_order i cs) (Ok tt) (read + 1) (postings r.used t'))
           (preparing (capacity t₀) strip (destinations_from (i + 1) (drop (i + 1) cs)) (backward in_order (i + 1) cs)
           (read + 1) (postings r.used t'))
       stepped fault e =
-          left (Key.Named key) ek
+          left (Some key) ek
           ∙ (preparing_step (capacity t₀) strip (record { number = i; posting = record { binding = c.binding; key = key; row = c.row } }) (destinations_from (i + 1) (drop (i + 1) cs)) (backward in_order i cs) read (postings used t)
-          ∙ rw (← z.len, ← eb, sym o.fault ∙ e, carries_postings _ _ _ o.carries, backward_more cs i c (Key.Named key) ec ek))
+          ∙ rw (← z.len, ← eb, sym o.fault ∙ e, carries_postings _ _ _ o.carries, backward_more cs i c (Some key) ec ek))
 
       pub prepare_clear :
-          blamed_on r.fault i ≡ Verdict.Passes → length t' ≡ length t →
+          blamed_on r.fault i ≡ Ok tt → length t' ≡ length t →
           Preparing cs strip used₀ t₀ t' r.used (read + 1) (inserted + 1) (i + 1)
       prepare_clear e l =
           let f = z.few in
           let s = z.some in
           let n = z.count in
-          let b = ap length (backward_more cs i c (Key.Named key) ec ek) in
+          let b = ap length (backward_more cs i c (Some key) ec ek) in
           record {
             low = omega arith;
             few = omega arith;
@@ -159,14 +158,14 @@ module _ {cs : List Change} {strip : List ℕ} {used₀ : ℕ} {t₀ t : List �
             count = omega arith;
             len = l ∙ z.len;
             ordered = carries_ordered _ _ _ o.carries;
-            is = stepped Fault.Nothing (none_blamed r.fault i e);
+            is = stepped None (none_blamed r.fault i e);
           }
 
       -- the insertion failed: what undo reaches is what the whole reaches
       pub prepare_stop :
-          (why : Answer) (reached : Reached) (t'' : List ℕ) → blamed_on r.fault i ≡ Verdict.Refused why →
+          (why : Result ℕ Failure) (reached : Reached) (t'' : List ℕ) → blamed_on r.fault i ≡ Err why →
           StageIn
-          (not_inserted why i (undoing strip (backward in_order i cs) Verdict.Passes (read + 1) (postings r.used t')))
+          (not_inserted why i (undoing strip (backward in_order i cs) (Ok tt) (read + 1) (postings r.used t')))
           reached t'' (read + 1 + i) →
           StageIn (preparing (capacity t₀) strip (destinations_from 0 cs) [] 0 (postings used₀ t₀)) reached t''
           (length cs * 2 + 1)
@@ -177,24 +176,24 @@ module _ {cs : List Change} {strip : List ℕ} {used₀ : ℕ} {t₀ t : List �
           (record { answer = u.answer; carries = u.carries; read = u.read; few = omega arith })
 
 -- a change could not be inserted: the answer that says why where the undo was clean, else 12 with that change
-module _ (why : Answer) (change : ℕ) {u : Undone} {b : Back} {t : List ℕ} {most : ℕ} (o : UndoneIn u b t most) where
+module _ (why : Result ℕ Failure) (change : ℕ) {u : Undone} {b : Back} {t : List ℕ} {most : ℕ} (o : UndoneIn u b t most) where
   pub undone_clean :
-      b.verdict ≡ Verdict.Passes → StageIn (not_inserted why change u)
+      b.verdict ≡ Ok tt → StageIn (not_inserted why change u)
       (record { answer = why; used = b.used; read = b.read }) t most
   undone_clean e =
       record {
-        answer = ap (λ (v : Verdict). why_not v why change) (sym e ∙ o.verdict);
+        answer = ap (λ (v : Result Unit Failure). why_not v why change) (sym e ∙ o.verdict);
         carries = o.carries;
         read = o.read;
         few = o.few;
       }
 
   pub undone_failed :
-      (a : Answer) → b.verdict ≡ Verdict.Refused a →
-      StageIn (not_inserted why change u) (record { answer = Answer.Undo change; used = b.used; read = b.read }) t most
+      (a : Result ℕ Failure) → b.verdict ≡ Err a →
+      StageIn (not_inserted why change u) (record { answer = Err (Failure.Undo change); used = b.used; read = b.read }) t most
   undone_failed a e =
       record {
-        answer = ap (λ (v : Verdict). why_not v why change) (sym e ∙ o.verdict);
+        answer = ap (λ (v : Result Unit Failure). why_not v why change) (sym e ∙ o.verdict);
         carries = o.carries;
         read = o.read;
         few = o.few;

@@ -1,4 +1,5 @@
 -- Undo: one change, and the turns of a run from the last change to the first.
+use Rattle.std.proofs.Common.{Option, Some, None, Result, Ok, Err, ℕ}
 use Prim.Native.Nat.{ℕ, zero, suc, ◌+◌, ◌-◌, ◌<◌, ◌≤◌}
 use native.Mathlib.Omega.{arith}
 use mathlib.Core.Path.{◌≡◌, refl, sym, ap, ◌∙◌}
@@ -10,10 +11,8 @@ use lib.Dec.{ltb}
 use borrow.Author.Tests.{ltb-true}
 use Rattle.strips.specs.Strips.{byte_at}
 use Rattle.rules.specs.declared.Change.{Change}
-use Rattle.rules.specs.declared.Key.{Key}
 use Rattle.rules.specs.declared.Posting.{Posting}
-use Rattle.rules.specs.declared.Answer.{Answer}
-use Rattle.rules.specs.declared.Verdict.{Verdict}
+use Rattle.rules.specs.declared.Failure.{Failure}
 use Rattle.rules.specs.Table.{postings}
 use Rattle.rules.specs.Orders.{Numbered, named, destination_of, no_change, recorded}
 use Rattle.rules.specs.Storage.{removal}
@@ -29,22 +28,22 @@ use Rattle.steps_undo.specs.Leaving.{UndoneIn, OneUndone, backward, as_recorded}
 
 -- a change with no destination leaves all as it is
 pub undone_none :
-    (strip : List ℕ) (number : ℕ) (c : Change) (from : Back) (t : List ℕ) → destination_of c ≡ Key.Missing → Ordered t from.used →
+    (strip : List ℕ) (number : ℕ) (c : Change) (from : Back) (t : List ℕ) → destination_of c ≡ None → Ordered t from.used →
     OneUndone strip number c from t from t
 undone_none strip number c from t e h =
     record {
       ordered = h;
       few = omega arith;
       rest =
-          λ ds. ap (λ (k : Key). undoing strip (named number c k ds) from.verdict from.read (postings from.used t))
+          λ ds. ap (λ (k : Option ℕ). undoing strip (named number c k ds) from.verdict from.read (postings from.used t))
           e;
     }
 
 undoing_step :
-    (strip : List ℕ) (d : Numbered) (ds : List Numbered) (v : Verdict) (read : ℕ) (ps : List Posting) →
+    (strip : List ℕ) (d : Numbered) (ds : List Numbered) (v : Result Unit Failure) (read : ℕ) (ps : List Posting) →
     undoing strip (d ∷ ds) v read ps ≡
     undoing strip ds
-    (cond (removal (byte_at strip read) d.posting ps).failed (Verdict.Refused (Answer.Undo d.number)) v) (read + 1)
+    (cond (removal (byte_at strip read) d.posting ps).failed (Err (Failure.Undo d.number)) v) (read + 1)
     (removal (byte_at strip read) d.posting ps).postings
 unfolding undoing
 undoing_step strip d ds v read ps = refl
@@ -52,11 +51,11 @@ undoing_step strip d ds v read ps = refl
 -- its destination is removed by the next byte, and a failure is kept
 pub undone_one :
     (strip : List ℕ) (number : ℕ) (c : Change) (key byte : ℕ) (from : Back) (t t' : List ℕ) (r : Removed) (b : Bool) →
-    destination_of c ≡ Key.Named key → byte ≡ byte_at strip from.read →
+    destination_of c ≡ Some key → byte ≡ byte_at strip from.read →
     RemovalIn (removal byte (record { binding = c.binding; key = key; row = c.row }) (postings from.used t)) r t' → r.failed ≡ b →
     OneUndone strip number c from t
     (record
-    { verdict = cond b (Verdict.Refused (Answer.Undo number)) from.verdict; used = r.used; read = from.read + 1 })
+    { verdict = cond b (Err (Failure.Undo number)) from.verdict; used = r.used; read = from.read + 1 })
     t'
 undone_one strip number c key byte from t t' r b e eb o f =
     let p : Posting = record { binding = c.binding; key = key; row = c.row } in
@@ -77,7 +76,7 @@ pub record Undoing (number : ℕ → ℕ) (cs : List Change) (strip : List ℕ) 
   pub len : length t ≡ length t₀
   pub ordered : Ordered t b.used
   pub is :
-      undoing strip (backward number n cs) Verdict.Passes read (postings used t₀) ≡
+      undoing strip (backward number n cs) (Ok tt) read (postings used t₀) ≡
       undoing strip (backward number i cs) b.verdict b.read (postings b.used t)
 
 -- no change, and one change further
@@ -116,7 +115,7 @@ module _ {number : ℕ → ℕ} {cs : List Change} {strip : List ℕ} {n read us
 
   pub undo_end :
       (most : ℕ) → read + n ≤ most → i ≡ 0 →
-      UndoneIn (undoing strip (backward number n cs) Verdict.Passes read (postings used t₀)) b t most
+      UndoneIn (undoing strip (backward number n cs) (Ok tt) read (postings used t₀)) b t most
   unfolding backward undoing
   undo_end most m e =
       let fe = z.few in
@@ -126,15 +125,15 @@ module _ {number : ℕ → ℕ} {cs : List Change} {strip : List ℕ} {n read us
 -- where the run begins
 pub undo_start :
     (number : ℕ → ℕ) (cs : List Change) (strip : List ℕ) (n read used : ℕ) (t : List ℕ) → Ordered t used →
-    Undoing number cs strip n read used t t (record { verdict = Verdict.Passes; used = used; read = read }) n
+    Undoing number cs strip n read used t t (record { verdict = Ok tt; used = used; read = read }) n
 undo_start number cs strip n read used t h =
     record { low = omega arith; few = omega arith; len = refl; ordered = h; is = refl }
 
 -- a record from its end to its start
 named_reverse :
-    (n : ℕ) (c : Change) (k : Key) (ds : List Numbered) → reverse (named n c k ds) ≡ reverse ds ++ named n c k []
-named_reverse n c Key.Missing ds = sym (append-nil (reverse ds))
-named_reverse n c (Key.Named key) ds =
+    (n : ℕ) (c : Change) (k : Option ℕ) (ds : List Numbered) → reverse (named n c k ds) ≡ reverse ds ++ named n c k []
+named_reverse n c None ds = sym (append-nil (reverse ds))
+named_reverse n c (Some key) ds =
     reverse_aux-eq ds (record { number = n; posting = record { binding = c.binding; key = key; row = c.row } } ∷ [])
 
 backward_last :

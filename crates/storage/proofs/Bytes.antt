@@ -1,4 +1,5 @@
 -- One insertion and one removal by the strip's byte, in a table that carries its postings.
+use Rattle.std.proofs.Common.{Some, None}
 use Prim.Native.Nat.{ℕ, ◌≤◌, ◌<◌}
 use mathlib.Core.Path.{◌≡◌, refl, ap, ◌∙◌}
 use mathlib.Core.List.{List}
@@ -18,13 +19,13 @@ use Rattle.storage.specs.Leaving.{InsertionIn, RemovalIn}
 module _ (byte capacity used : ℕ) (p : Posting) (t : List ℕ) (h : Ordered t used) where
   -- where the byte is not 0, storage refuses the insertion, and the table is as it was
   pub insert_stored :
-      (byte ≡ 0 → ⊥) → InsertionIn (insertion byte capacity p (postings used t)) (record { fault = Fault.Store; used = used }) t
+      (byte ≡ 0 → ⊥) → InsertionIn (insertion byte capacity p (postings used t)) (record { fault = (Some Fault.Store); used = used }) t
   insert_stored e = rw (insertion_store byte capacity p (postings used t) e) (record { fault = refl; carries = h })
 
   -- where it is 0 and there is no room, the insertion fails full, and the table is as it was
   pub insert_full :
       byte ≡ 0 → capacity ≤ used → InsertionIn (insertion byte capacity p (postings used t))
-      (record { fault = Fault.Full; used = used }) t
+      (record { fault = (Some Fault.Full); used = used }) t
   insert_full e k =
       let r : capacity ≤ length (postings used t) = rw (← h.count) k in
       rw (insertion_full byte capacity p (postings used t) e r) (record { fault = refl; carries = h })
@@ -32,7 +33,7 @@ module _ (byte capacity used : ℕ) (p : Posting) (t : List ℕ) (h : Ordered t 
   -- where it is 0 and there is room, the insertion leaves a table that carries the postings with p put in
   pub insert_clear :
       (t' : List ℕ) (more : ℕ) → byte ≡ 0 → used < capacity → Carries t' more (inserted p (postings used t)) →
-      InsertionIn (insertion byte capacity p (postings used t)) (record { fault = Fault.Nothing; used = more }) t'
+      InsertionIn (insertion byte capacity p (postings used t)) (record { fault = None; used = more }) t'
   insert_clear t' more e k o =
       let r : length (postings used t) < capacity = rw (← h.count) k in
       rw (insertion_clear byte capacity p (postings used t) e r) (record { fault = refl; carries = o })

@@ -7,7 +7,7 @@ use mathlib.Core.List.{List, [], ◌∷◌, ◌++◌}
 use mathlib.Core.Bool.{Bool, true, false, cond}
 use lib.ListN.{length, take, drop}
 use Rattle.rules.specs.declared.Posting.{Posting}
-use Rattle.rules.specs.declared.Order.{Order}
+use Rattle.std.specs.declared.cmp.Ordering.{Ordering}
 use Rattle.rules.specs.Postings.{compared, is_before, is_same, same, chain, ascending, present, placed, inserted, removed}
 use Rattle.booleans.proofs.Tests.{impossible, clash}
 use Rattle.laws.proofs.Ranks.{compared_self, compared_same, after_before, before_after, before_before, same_self}
@@ -23,13 +23,13 @@ unfolding earlier
 earlier_none p q [] h e = rw e
 earlier_none p q (x ∷ xs) h e = rw e (earlier_none p x xs (chain_rest q x xs h) (go (compared x p) refl))
   where
-    go : (o : Order) → compared x p ≡ o → is_before o ≡ false
-    go Order.Before k = absurd (clash (is_before (compared q p)) (ap is_before (before_before q x p (chain_before q x xs h) k)) e)
-    go Order.Same k = refl
-    go Order.After k = refl
+    go : (o : Ordering) → compared x p ≡ o → is_before o ≡ false
+    go Ordering.Less k = absurd (clash (is_before (compared q p)) (ap is_before (before_before q x p (chain_before q x xs h) k)) e)
+    go Ordering.Equal k = refl
+    go Ordering.Greater k = refl
 
 pub earlier_before :
-    (p q : Posting) (qs : List Posting) → compared q p ≡ Order.Before → earlier p (q ∷ qs) ≡ suc (earlier p qs)
+    (p q : Posting) (qs : List Posting) → compared q p ≡ Ordering.Less → earlier p (q ∷ qs) ≡ suc (earlier p qs)
 unfolding earlier
 earlier_before p q qs e = rw e
 
@@ -42,21 +42,21 @@ earlier_most p (q ∷ qs) = go (is_before (compared q p)) (earlier_most p qs)
     go true ih = omega arith
     go false ih = omega arith
 
-apart : (p q : Posting) → compared q p ≡ Order.Before → same p q ≡ false
+apart : (p q : Posting) → compared q p ≡ Ordering.Less → same p q ≡ false
 unfolding same
 apart p q e = ap is_same (before_after q p e)
 
 pub present_before :
-    (p q : Posting) (qs : List Posting) → compared q p ≡ Order.Before → present p (q ∷ qs) ≡ present p qs
+    (p q : Posting) (qs : List Posting) → compared q p ≡ Ordering.Less → present p (q ∷ qs) ≡ present p qs
 unfolding present
 present_before p q qs e = rw (apart p q e)
 
-pub present_same : (p q : Posting) (qs : List Posting) → compared q p ≡ Order.Same → present p (q ∷ qs) ≡ true
+pub present_same : (p q : Posting) (qs : List Posting) → compared q p ≡ Ordering.Equal → present p (q ∷ qs) ≡ true
 unfolding present
 present_same p q qs e = rw (compared_same q p e, same_self p)
 
 pub present_after :
-    (p q : Posting) (qs : List Posting) → chain q qs ≡ true → compared q p ≡ Order.After → present p (q ∷ qs) ≡ false
+    (p q : Posting) (qs : List Posting) → chain q qs ≡ true → compared q p ≡ Ordering.Greater → present p (q ∷ qs) ≡ false
 present_after p q qs h e = absent_before p (q ∷ qs) (chain_cons p q qs (after_before q p e) h)
 
 -- what stood there is found again, and its place is one of the list's
@@ -66,14 +66,14 @@ earlier_present p [] h e = absurd (clash false e refl)
 earlier_present p (q ∷ qs) h e = go (compared q p) refl (λ k. earlier_present p qs (ascending_rest q qs h) k)
   where
     go :
-        (o : Order) → compared q p ≡ o → (present p qs ≡ true → earlier p qs < length qs) →
+        (o : Ordering) → compared q p ≡ o → (present p qs ≡ true → earlier p qs < length qs) →
         cond (is_before o) (suc (earlier p qs)) (earlier p qs) < suc (length qs)
-    go Order.Before k ih =
+    go Ordering.Less k ih =
         let f : present p qs ≡ true = sym (present_before p q qs k) ∙ e in
         let l = ih f in
         omega arith
-    go Order.Same k ih = let l = earlier_most p qs in omega arith
-    go Order.After k ih = let l = earlier_most p qs in omega arith
+    go Ordering.Equal k ih = let l = earlier_most p qs in omega arith
+    go Ordering.Greater k ih = let l = earlier_most p qs in omega arith
 
 inserted_nowhere : (p : Posting) → inserted p [] ≡ take (earlier p []) [] ++ p ∷ drop (earlier p []) []
 unfolding inserted earlier
@@ -92,14 +92,14 @@ inserted_gap p [] h e = inserted_nowhere p
 inserted_gap p (q ∷ qs) h e = go (compared p q) refl (λ k. inserted_gap p qs (ascending_rest q qs h) k)
   where
     go :
-        (o : Order) → compared p q ≡ o →
+        (o : Ordering) → compared p q ≡ o →
         (present p qs ≡ false → inserted p qs ≡ take (earlier p qs) qs ++ p ∷ drop (earlier p qs) qs) →
         placed o p q qs (inserted p qs) ≡ take (earlier p (q ∷ qs)) (q ∷ qs) ++ p ∷ drop (earlier p (q ∷ qs)) (q ∷ qs)
-    go Order.Before k ih = rw (earlier_none p q qs h (ap is_before (before_after p q k)))
-    go Order.Same k ih =
+    go Ordering.Less k ih = rw (earlier_none p q qs h (ap is_before (before_after p q k)))
+    go Ordering.Equal k ih =
         absurd (clash (present p (q ∷ qs)) (present_same p q qs (rw (compared_same p q k) (compared_self q))) e)
-    go Order.After k ih =
-        let b : compared q p ≡ Order.Before = after_before p q k in
+    go Ordering.Greater k ih =
+        let b : compared q p ≡ Ordering.Less = after_before p q k in
         rw (earlier_before p q qs b, ih (sym (present_before p q qs b) ∙ e))
 
 -- a posting that stands there goes out from between those before it and the others
@@ -111,17 +111,17 @@ removed_at p [] h e = absurd (clash (present p []) e (present_nowhere p))
 removed_at p (q ∷ qs) h e = go (compared q p) refl (λ k. removed_at p qs (ascending_rest q qs h) k)
   where
     go :
-        (o : Order) → compared q p ≡ o →
+        (o : Ordering) → compared q p ≡ o →
         (present p qs ≡ true → removed p qs ≡ take (earlier p qs) qs ++ drop (suc (earlier p qs)) qs) →
         cond (same p q) (removed p qs) (q ∷ removed p qs) ≡ take (earlier p (q ∷ qs)) (q ∷ qs) ++ drop
         (suc (earlier p (q ∷ qs))) (q ∷ qs)
-    go Order.Before k ih =
+    go Ordering.Less k ih =
         rw (apart p q k, earlier_before p q qs k, ih (sym (present_before p q qs k) ∙ e))
-    go Order.Same k ih =
+    go Ordering.Equal k ih =
         let z : q ≡ p = compared_same q p k in
         let c : chain p qs ≡ true = rw z at h in
         rw (z, same_self p, removed_absent p qs (absent_before p qs c), earlier_none p p qs c (ap is_before (compared_self p)))
-    go Order.After k ih = absurd (clash (present p (q ∷ qs)) e (present_after p q qs h k))
+    go Ordering.Greater k ih = absurd (clash (present p (q ∷ qs)) e (present_after p q qs h k))
 
 -- where a search found it, and whether it stands there
 pub at_present : (p : Posting) (ps : List Posting) (at : ℕ) → place_of p ps ≡ Place.At at → present p ps ≡ true
@@ -168,10 +168,10 @@ inserted_present p [] h e = absurd (clash (present p []) e (present_nowhere p))
 inserted_present p (q ∷ qs) h e = go (compared p q) refl (λ k. inserted_present p qs (ascending_rest q qs h) k)
   where
     go :
-        (o : Order) → compared p q ≡ o → (present p qs ≡ true → inserted p qs ≡ qs) → placed o p q qs (inserted p qs) ≡ q ∷ qs
-    go Order.Before k ih = absurd (clash (present p (q ∷ qs)) e (absent_before p (q ∷ qs) (chain_cons p q qs k h)))
-    go Order.Same k ih = refl
-    go Order.After k ih = rw (ih (sym (present_before p q qs (after_before p q k)) ∙ e))
+        (o : Ordering) → compared p q ≡ o → (present p qs ≡ true → inserted p qs ≡ qs) → placed o p q qs (inserted p qs) ≡ q ∷ qs
+    go Ordering.Less k ih = absurd (clash (present p (q ∷ qs)) e (absent_before p (q ∷ qs) (chain_cons p q qs k h)))
+    go Ordering.Equal k ih = refl
+    go Ordering.Greater k ih = rw (ih (sym (present_before p q qs (after_before p q k)) ∙ e))
 
 -- what insertion and removal make of an ascending list, by where a search found the posting
 module _ (p : Posting) (ps : List Posting) (at : ℕ) (sorted : ascending ps ≡ true) where

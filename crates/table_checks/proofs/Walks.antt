@@ -11,7 +11,7 @@ use lib.Dec.{eqb, ltb}
 use lib.Bits.{bit_or, or_add_and, and_le_l, and_le_r}
 use borrow.Author.Tests.{ltb-true, eqb-true, lt-ltb, eq-eqb}
 use Rattle.rules.specs.declared.Posting.{Posting}
-use Rattle.rules.specs.declared.Order.{Order}
+use Rattle.std.specs.declared.cmp.Ordering.{Ordering}
 use Rattle.rules.specs.Postings.{every, ranked, compared, is_before, chain, ascending, binding_below}
 use Rattle.rules.specs.Table.{cells, postings}
 use Rattle.booleans.proofs.Tests.{impossible, Tri, less, equal, more, tri, equal_tests}
@@ -45,7 +45,7 @@ pub none_chained : (p : Posting) → chain p [] ≡ true
 unfolding chain
 none_chained p = refl
 
-binding_before : (p q : Posting) → compared p q ≡ Order.Before → p.binding ≤ q.binding
+binding_before : (p q : Posting) → compared p q ≡ Ordering.Less → p.binding ≤ q.binding
 unfolding compared
 binding_before p q e = go (tri p.binding q.binding)
   where
@@ -54,7 +54,7 @@ binding_before p q e = go (tri p.binding q.binding)
     go (equal h) = omega arith
     go (more h) =
         impossible
-        (cc (e, ranked_more p.binding q.binding (ranked p.key q.key (ranked p.row q.row Order.Same)) h))
+        (cc (e, ranked_more p.binding q.binding (ranked p.key q.key (ranked p.row q.row Ordering.Equal)) h))
 
 -- in an ascending list the last posting has the greatest binding, so it alone decides
 pub within_last :

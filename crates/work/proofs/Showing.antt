@@ -1,4 +1,5 @@
 -- What a part of a call reached, shown in the lent table with its head and record list, is what the rules show.
+use Rattle.std.proofs.Common.{Result, Ok, ℕ}
 use Prim.Native.Nat.{ℕ, suc, ◌^◌, ◌<◌, ◌≤◌}
 use native.Mathlib.Omega.{arith}
 use mathlib.Core.Path.{◌≡◌, refl, sym, ap, ◌∙◌}
@@ -7,10 +8,9 @@ use mathlib.Core.Bool.{Bool, true, false, cond, ◌&&◌}
 use lib.ListN.{length}
 use lib.Dec.{eqb}
 use Rattle.lent_lists.specs.Written.{written}
-use Rattle.rules.specs.declared.Answer.{Answer}
+use Rattle.rules.specs.declared.Failure.{Failure}
 use Rattle.rules.specs.declared.Head.{Head}
 use Rattle.rules.specs.declared.Posting.{Posting}
-use Rattle.rules.specs.declared.Verdict.{Verdict}
 use Rattle.rules.specs.Postings.{rows_under, counted}
 use Rattle.rules.specs.Table.{postings, laid_out, well_formed}
 use Rattle.rules.specs.Orders.{Numbered, change_numbers}
@@ -58,13 +58,13 @@ module _ (head : Head) (t₀ t list : List ℕ) (len : length t ≡ length t₀)
   -- rollback settles what its undo says
   pub undone_shown :
       (u : Undone) (b : Back) (most : ℕ) → UndoneIn u b t most →
-      outcome_of (done_of head (record { answer = settled b.verdict (Answer.Accepted 0); used = b.used; read = b.read }))
+      outcome_of (done_of head (record { answer = settled b.verdict (Ok 0); used = b.used; read = b.read }))
       t list ≡ shown head t₀ list (rolled_back u)
   undone_shown u b most h =
       reached_shown (rolled_back u)
-      (record { answer = settled b.verdict (Answer.Accepted 0); used = b.used; read = b.read }) most
+      (record { answer = settled b.verdict (Ok 0); used = b.used; read = b.read }) most
       (record {
-        answer = ap (λ (v : Verdict). settled v (Answer.Accepted 0)) h.verdict;
+        answer = ap (λ (v : Result Unit Failure). settled v (Ok 0)) h.verdict;
         carries = h.carries;
         read = h.read;
         few = h.few;
@@ -96,7 +96,7 @@ module _ (head : Head) (t₀ t list₀ : List ℕ) (ds : List Numbered) (s : Sta
         let same : removing strip r.answer ss r.read (postings r.used t) ≡ then_sources strip ss s =
         ap (λ (ps : List Posting). removing strip r.answer ss r.read ps) (carries_postings _ _ _ h.carries)
         ∙ (ap (λ (n : ℕ). removing strip r.answer ss n s.postings) h.read
-        ∙ (ap (λ (a : Answer). removing strip a ss s.read s.postings) h.answer
+        ∙ (ap (λ (a : Result ℕ Failure). removing strip a ss s.read s.postings) h.answer
         ∙ ap (λ (b : Bool). cond b (removing strip s.answer ss s.read s.postings) s) (sym (said true e)))) in
         reached_shown head t₀ t' list len _ r' most' o
         ∙ (ap (shown head t₀ list) same

@@ -1,7 +1,8 @@
 -- What the undo reached, settled and shown.
+use Rattle.std.proofs.Common.{Result, ℕ}
 use mathlib.Core.Path.{ap, ◌∙◌}
 use Rattle.rules.specs.Calls.{Outcome, outcome_of}
-use Rattle.rules.specs.declared.Answer.{Answer}
+use Rattle.rules.specs.declared.Failure.{Failure}
 use Rattle.table.proofs.Keeping.{well_formed_ordered}
 use Rattle.rules.specs.declared.Done.{Done}
 use Rattle.work.proofs.Showing.{done_of, used_fits, undone_shown}
@@ -20,7 +21,7 @@ done-requires c =
 
 pub returns : goal.returns
 returns c =
-    let answered : Answer → Outcome =
+    let answered : Result ℕ Failure → Outcome =
     λ a. outcome_of
     (done_of c.args.head (record { answer = a; used = c.rollback-back.result.used; read = c.rollback-back.result.read }))
     c.rollback-back.new.table
