@@ -70,25 +70,25 @@ module _ (capacity used : ℕ) (strip : List ℕ) (ds ss : List Numbered) where
   ends_one a b (Ends.accepted r q) (Ends.undo k f u) = absurd (fails_not (length ss) k r q f)
   ends_one a b (Ends.accepted r q) (Ends.source j h r' q' x) = absurd (halts_before j (length ss) q x h)
   ends_one a b (Ends.store k f x u) (Ends.accepted r q) = absurd (fails_not (length ss) k r q f)
-  ends_one a b (Ends.store k f x u) (Ends.store l g y v) = ap (λ i. Failure.Store (number_at ds i)) (fails_one k l f g)
+  ends_one a b (Ends.store k f x u) (Ends.store l g y v) = ap (λ i. Err (Failure.Store (number_at ds i))) (fails_one k l f g)
   ends_one a b (Ends.store k f x u) (Ends.full l g y v) = absurd (byte_not k l (fails_one k l f g) x y)
   ends_one a b (Ends.store k f x u) (Ends.undo l g v) = absurd (undo_not k l (fails_one k l f g) u v)
   ends_one a b (Ends.store k f x u) (Ends.source j h r q y) = absurd (fails_not j k r q f)
   ends_one a b (Ends.full k f x u) (Ends.accepted r q) = absurd (fails_not (length ss) k r q f)
   ends_one a b (Ends.full k f x u) (Ends.store l g y v) = absurd (byte_not l k (fails_one l k g f) y x)
-  ends_one a b (Ends.full k f x u) (Ends.full l g y v) = ap (λ i. Failure.Full (number_at ds i)) (fails_one k l f g)
+  ends_one a b (Ends.full k f x u) (Ends.full l g y v) = ap (λ i. Err (Failure.Full (number_at ds i))) (fails_one k l f g)
   ends_one a b (Ends.full k f x u) (Ends.undo l g v) = absurd (undo_not k l (fails_one k l f g) u v)
   ends_one a b (Ends.full k f x u) (Ends.source j h r q y) = absurd (fails_not j k r q f)
   ends_one a b (Ends.undo k f u) (Ends.accepted r q) = absurd (fails_not (length ss) k r q f)
   ends_one a b (Ends.undo k f u) (Ends.store l g y v) = absurd (undo_not l k (fails_one l k g f) v u)
   ends_one a b (Ends.undo k f u) (Ends.full l g y v) = absurd (undo_not l k (fails_one l k g f) v u)
-  ends_one a b (Ends.undo k f u) (Ends.undo l g v) = ap (λ i. Failure.Undo (number_at ds i)) (fails_one k l f g)
+  ends_one a b (Ends.undo k f u) (Ends.undo l g v) = ap (λ i. Err (Failure.Undo (number_at ds i))) (fails_one k l f g)
   ends_one a b (Ends.undo k f u) (Ends.source j h r q y) = absurd (fails_not j k r q f)
   ends_one a b (Ends.source i h r q x) (Ends.accepted r' q') = absurd (halts_before i (length ss) q' x h)
   ends_one a b (Ends.source i h r q x) (Ends.store k f y u) = absurd (fails_not i k r q f)
   ends_one a b (Ends.source i h r q x) (Ends.full k f y u) = absurd (fails_not i k r q f)
   ends_one a b (Ends.source i h r q x) (Ends.undo k f u) = absurd (fails_not i k r q f)
-  ends_one a b (Ends.source i h r q x) (Ends.source j k r' q' y) = ap (λ n. Failure.Source (number_at ss n)) (halts_one i j q x q' y)
+  ends_one a b (Ends.source i h r q x) (Ends.source j k r' q' y) = ap (λ n. Err (Failure.Source (number_at ss n))) (halts_one i j q x q' y)
 
   -- none of them accepts but the first
   accepted_ends :
@@ -108,7 +108,7 @@ module _ (strip : List ℕ) (items : List Numbered) where
   rollback_ends_one a b (RollbackEnds.undo k h x l) (RollbackEnds.undo k' h' x' l') =
       let under : k < k' → ⊥ = λ e. x' (l k' (omega arith) h') in
       let over : k' < k → ⊥ = λ e. x (l' k (omega arith) h) in
-      ap (λ i. Failure.Undo (number_at items i)) (omega arith)
+      ap (λ i. Err (Failure.Undo (number_at items i))) (omega arith)
 
   pub removal_ends_one : (a b : Result ℕ Failure) → RemovalEnds strip items a → RemovalEnds strip items b → a ≡ b
   removal_ends_one a b (RemovalEnds.accepted q) (RemovalEnds.accepted r) = refl
@@ -117,22 +117,22 @@ module _ (strip : List ℕ) (items : List Numbered) where
   removal_ends_one a b (RemovalEnds.source j h l x) (RemovalEnds.source j' h' l' x') =
       let under : j < j' → ⊥ = λ e. x (l' j (omega arith) e) in
       let over : j' < j → ⊥ = λ e. x' (l j' (omega arith) e) in
-      ap (λ i. Failure.Source (number_at items i)) (omega arith)
+      ap (λ i. Err (Failure.Source (number_at items i))) (omega arith)
 
 -- where the checks are of a kind and the ends exclude each other, each answer is given exactly where its condition holds
-refused_one : (v : Result Unit Failure) (a b : Result ℕ Failure) → v ≡ Err a → v ≡ Err b → a ≡ b
+refused_one : (v : Result Unit Failure) (a b : Failure) → v ≡ Err a → v ≡ Err b → a ≡ b
 refused_one v a b p q = cc
 
-refused_not : {A : Type 0} (v : Result Unit Failure) (a : Result ℕ Failure) → v ≡ Err a → v ≡ Ok tt → A
+refused_not : {A : Type 0} (v : Result Unit Failure) (a : Failure) → v ≡ Err a → v ≡ Ok tt → A
 refused_not v a p q = impossible (cc)
 
 answered_one :
     (v : Result Unit Failure) (E : Result ℕ Failure → Type 0) → ((a b : Result ℕ Failure) → E a → E b → a ≡ b) → (a b : Result ℕ Failure) → Answered v E a →
     Answered v E b → a ≡ b
-answered_one v E f a b (Answered.refused p) (Answered.refused q) = refused_one v a b p q
-answered_one v E f a b (Answered.refused p) (Answered.ended q e) = refused_not v a p q
-answered_one v E f a b (Answered.ended p e) (Answered.refused q) = refused_not v b q p
-answered_one v E f a b (Answered.ended p d) (Answered.ended q e) = f a b d e
+answered_one v E f a b (Answered.refused x p) (Answered.refused y q) = ap Err (refused_one v x y p q)
+answered_one v E f a b (Answered.refused x p) (Answered.ended _ q e) = refused_not v x p q
+answered_one v E f a b (Answered.ended _ p e) (Answered.refused y q) = refused_not v y q p
+answered_one v E f a b (Answered.ended _ p d) (Answered.ended _ q e) = f a b d e
 
 exactly :
     (v : Result Unit Failure) (E : Result ℕ Failure → Type 0) → ((a b : Result ℕ Failure) → E a → E b → a ≡ b) → (given : Result ℕ Failure) → Answered v E given →
@@ -143,9 +143,9 @@ exactly v E f given h a = ((λ e. rw e at h), (λ k. answered_one v E f given a 
 accepted_passes :
     (v : Result Unit Failure) (E : Result ℕ Failure → Type 0) → Says is_refusal v → (a : Result ℕ Failure) → is_accepted a ≡ true → Answered v E a →
     (v ≡ Ok tt) × E a
-accepted_passes v E p a h (Answered.refused e) =
-    absurd (clash (is_accepted a) h (unchanged_accepts_not a (refusal_unchanged a (p a e))))
-accepted_passes v E p a h (Answered.ended e k) = (e, k)
+accepted_passes v E p a h (Answered.refused why e) =
+    absurd (clash (is_accepted (Err why)) h (unchanged_accepts_not (Err why) (refusal_unchanged (Err why) (p why e))))
+accepted_passes v E p a h (Answered.ended _ e k) = (e, k)
 
 module _ (head : Head) (table : List ℕ) (c : Call) where
   used_start : Clear head table c → length (postings_before head table) ≡ head.used
@@ -166,7 +166,7 @@ module _ (head : Head) (table : List ℕ) (c : Call) where
       }
     where
       go :
-          (why : Result ℕ Failure) →
+          (why : Failure) →
           Cause (byte_at c.strip (0 + s.at)) (length (postings_before head table) + s.at) (capacity table) (number_at (going c) s.at) why →
           (byte_at c.strip s.at ≡ 0 → ⊥) ⊎ (head.used + s.at ≡ capacity table)
       go why (Cause.store b) = inl (rw (zero-add s.at) at b)
@@ -185,7 +185,7 @@ module _ (head : Head) (table : List ℕ) (c : Call) where
       f = stopped_fails k s
 
       go :
-          (why : Result ℕ Failure) →
+          (why : Failure) →
           Cause (byte_at c.strip (0 + s.at)) (length (postings_before head table) + s.at) (capacity table) (number_at (going c) s.at) why →
           TakenBack c.strip (0 + s.at + 1) (0 + s.at + 1 + (0 + s.at)) (postings_before head table) why (prepared head table c) ⊎ LeftBehind c.strip (0 + s.at + 1) (0 + s.at + 1 + (0 + s.at)) (number_at (going c) s.at) (postings_before head table) (prepared head table c) →
           Ends (capacity table) head.used c.strip (going c) ss (prepared head table c).answer
@@ -206,52 +206,52 @@ module _ (head : Head) (table : List ℕ) (c : Call) where
   publish_answered = go (publish_of head table c) (published head table c)
     where
       go : (o : Outcome) → Published head table c o → PublishAnswers head table c o.answer
-      go o (Published.refused a e k) = rw k (Answered.refused e)
+      go o (Published.refused a e k) = rw k (Answered.refused _ e)
       go o (Published.taken e r l k) =
           rw k
-          (Answered.ended e
+          (Answered.ended _ e
           (Ends.accepted (ready_room (publish_clear head table c e) r) (ready_quiet (length (leaving c)) r l.quiet)))
       go o (Published.halted e r l k) =
           rw (k, l.answers)
-          (Answered.ended e
+          (Answered.ended _ e
           (Ends.source l.at l.there (ready_room (publish_clear head table c e) r) (ready_quiet l.at r l.quiet) l.fault))
-      go o (Published.stopped e s k) = rw k (Answered.ended e (stopped_ends (leaving c) (publish_clear head table c e) s))
+      go o (Published.stopped e s k) = rw k (Answered.ended _ e (stopped_ends (leaving c) (publish_clear head table c e) s))
 
   pub prepare_answered : PrepareAnswers head table c (prepare_of head table c).answer
   prepare_answered = go (prepare_of head table c) (prepares head table c)
     where
       go : (o : Outcome) → Prepares head table c o → PrepareAnswers head table c o.answer
-      go o (Prepares.refused a e k) = rw k (Answered.refused e)
+      go o (Prepares.refused a e k) = rw k (Answered.refused _ e)
       go o (Prepares.ready e r k) =
           let n : 0 + length (going c) ≡ length (going c) = zero-add (length (going c)) in
           rw (k, r.answers, n)
-          (Answered.ended e
+          (Answered.ended _ e
           (Ends.accepted (ready_room (prepare_clear head table c e) r) (ready_quiet 0 r λ i h l. absurd (omega arith))))
-      go o (Prepares.stopped e s k) = rw k (Answered.ended e (stopped_ends [] (prepare_clear head table c e) s))
+      go o (Prepares.stopped e s k) = rw k (Answered.ended _ e (stopped_ends [] (prepare_clear head table c e) s))
 
   pub rollback_answered : RollbackAnswers head table c (rollback_of head table c).answer
   rollback_answered = go (rollback_of head table c) (rolls_back head table c)
     where
       go : (o : Outcome) → RollsBack head table c o → RollbackAnswers head table c o.answer
-      go o (RollsBack.refused a e k) = rw k (Answered.refused e)
+      go o (RollsBack.refused a e k) = rw k (Answered.refused _ e)
       go o (RollsBack.clean e r k) =
-          rw (k, r.verdict) (Answered.ended e (RollbackEnds.accepted λ i h l. r.quiet i h (omega arith)))
+          rw (k, r.verdict) (Answered.ended _ e (RollbackEnds.accepted λ i h l. r.quiet i h (omega arith)))
       go o (RollsBack.failed e r k) =
           let z : 0 + r.at ≡ r.at = zero-add r.at in
           rw (k, r.verdict)
-          (Answered.ended e (RollbackEnds.undo r.at r.there (rw z at r.fault) λ i h l. r.last i (omega arith) (omega arith)))
+          (Answered.ended _ e (RollbackEnds.undo r.at r.there (rw z at r.fault) λ i h l. r.last i (omega arith) (omega arith)))
 
   pub removal_answered : RemovalAnswers head table c (removal_of head table c).answer
   removal_answered = go (removal_of head table c) (removes head table c)
     where
       go : (o : Outcome) → Removes head table c o → RemovalAnswers head table c o.answer
-      go o (Removes.refused a e k) = rw k (Answered.refused e)
+      go o (Removes.refused a e k) = rw k (Answered.refused _ e)
       go o (Removes.cleared e r k) =
-          rw (k, r.answers) (Answered.ended e (RemovalEnds.accepted λ i h l. r.quiet i h (omega arith)))
+          rw (k, r.answers) (Answered.ended _ e (RemovalEnds.accepted λ i h l. r.quiet i h (omega arith)))
       go o (Removes.halted e r k) =
           let z : 0 + r.at ≡ r.at = zero-add r.at in
           rw (k, r.answers)
-          (Answered.ended e (RemovalEnds.source r.at r.there (λ i h l. r.quiet i h (omega arith)) (rw z at r.fault)))
+          (Answered.ended _ e (RemovalEnds.source r.at r.there (λ i h l. r.quiet i h (omega arith)) (rw z at r.fault)))
 
   -- THE ACCEPTANCE LAW: each answer of each call is given exactly where its condition holds
   pub publish_exactly : (a : Result ℕ Failure) → ((publish_of head table c).answer ≡ a) ↔ PublishAnswers head table c a
@@ -284,7 +284,7 @@ module _ (head : Head) (table : List ℕ) (c : Call) where
         let k = accepted_passes _ _ (publish_proper head table c) _ h publish_answered in
         let r = accepted_ends (capacity table) head.used c.strip (going c) (leaving c) _ h k.1 in
         record { passes = k.0; room = r.0; quiet = r.1 }),
-    (λ k. rw ((publish_exactly _).1 (Answered.ended k.passes (Ends.accepted k.room k.quiet)))),
+    (λ k. rw ((publish_exactly _).1 (Answered.ended _ k.passes (Ends.accepted k.room k.quiet)))),
   )
 
   -- and then its whole outcome is this
@@ -324,8 +324,8 @@ count_answered head table binding key = go (count_checks head table binding) ref
     own = Ok (counted binding key (postings head.used table))
 
     go : (v : Result Unit Failure) → count_checks head table binding ≡ v → CountAnswers head table binding key (settled v own)
-    go (Ok _) e = Answered.ended e refl
-    go (Err a) e = Answered.refused e
+    go (Ok _) e = Answered.ended _ e refl
+    go (Err why) e = Answered.refused why e
 
 pub count_exactly :
     (head : Head) (table : List ℕ) (binding key : ℕ) (a : Result ℕ Failure) →

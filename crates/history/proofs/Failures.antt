@@ -39,13 +39,13 @@ use Rattle.history.proofs.Leftovers.{halts_leaves, undoing_leaves, prepare_stops
 
 -- no check refuses with a number that tells another class
 not_refused :
-    {A : Type 0} (v : Result Unit Failure) (a : Result ℕ Failure) (n : ℕ) → Says is_refusal v → v ≡ Err a → (told_of a).answer ≡ n →
+    {A : Type 0} (v : Result Unit Failure) (a : Failure) (n : ℕ) → Says is_refusal v → v ≡ Err a → (told_of (Err a)).answer ≡ n →
     refuses (class_of_number n) ≡ false → A
 not_refused v a n p e h k =
-    absurd (clash (is_refusal a) (p a e) (ap refuses (class_by_number a ∙ ap class_of_number h) ∙ k))
+    absurd (clash (is_refusal (Err a)) (p a e) (ap refuses (class_by_number (Err a) ∙ ap class_of_number h) ∙ k))
 
 -- an insertion that failed says 10 or 11
-cause_below : (byte used size change : ℕ) (why : Result ℕ Failure) → Cause byte used size change why → (told_of why).answer < 12
+cause_below : (byte used size change : ℕ) (why : Failure) → Cause byte used size change why → (told_of (Err why)).answer < 12
 cause_below byte used size change why (Cause.store h) = omega arith
 cause_below byte used size change why (Cause.full h k) = omega arith
 

@@ -306,7 +306,7 @@ live_count x l binding key =
     given : Result ℕ Failure
     given = Ok (counted binding key (postings_in x))
 
-    go : (b : Bool) → settled (or_else (must b (Failure.Guard 0)) (Ok tt)) given ≡ cond b given (Failure.Guard 0)
+    go : (b : Bool) → settled (or_else (must b (Failure.Guard 0)) (Ok tt)) given ≡ cond b given (Err (Failure.Guard 0))
     go true = refl
     go false = refl
 

@@ -27,8 +27,8 @@ one_of ns a = among (told_of a).answer ns
 answered_among :
     (ns : List ℕ) (v : Result Unit Failure) (E : Result ℕ Failure → Type 0) → Says (one_of ns) v → ((a : Result ℕ Failure) → E a → one_of ns a ≡ true) → (a : Result ℕ Failure) →
     Answered v E a → one_of ns a ≡ true
-answered_among ns v E f g a (Answered.refused e) = f a e
-answered_among ns v E f g a (Answered.ended e k) = g a k
+answered_among ns v E f g a (Answered.refused why e) = f why e
+answered_among ns v E f g a (Answered.ended _ e k) = g a k
 
 module _ (head : Head) (table : List ℕ) (c : Call) where
   -- prepare

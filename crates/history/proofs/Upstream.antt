@@ -81,17 +81,17 @@ module _ (head : Head) (table : List ℕ) (c : Call) where
   unless_left P (Err a) list s h k = h
 
   refused_not :
-      {A : Type 0} (v : Result Unit Failure) (o : Outcome) (a : Result ℕ Failure) → Says is_refusal v → v ≡ Err a →
-      o ≡ as_before head table c.record_list a → is_accepted o.answer ≡ true → A
+      {A : Type 0} (v : Result Unit Failure) (o : Outcome) (a : Failure) → Says is_refusal v → v ≡ Err a →
+      o ≡ as_before head table c.record_list (Err a) → is_accepted o.answer ≡ true → A
   refused_not v o a p e k h =
-      absurd (clash (is_accepted a) (rw k at h) (unchanged_accepts_not a (refusal_unchanged a (p a e))))
+      absurd (clash (is_accepted (Err a)) (rw k at h) (unchanged_accepts_not (Err a) (refusal_unchanged (Err a) (p a e))))
 
   -- a call that no check refused has passed them all
   pub unless_passes :
       (v : Result Unit Failure) (o : Outcome) → Says is_refusal v →
       is_refusal (unless_refused v (as_before head table c.record_list) o).answer ≡ false → v ≡ Ok tt
   unless_passes (Ok _) o p h = refl
-  unless_passes (Err a) o p h = absurd (clash (is_refusal a) (p a refl) h)
+  unless_passes (Err a) o p h = absurd (clash (is_refusal (Err a)) (p a refl) h)
 
   rollback_passes : is_refusal (rollback_of head table c).answer ≡ false → rollback_checks head table c ≡ Ok tt
   unfolding rollback_of

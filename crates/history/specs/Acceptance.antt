@@ -33,35 +33,35 @@ pub data Ends (capacity used : ℕ) (strip : List ℕ) (ds ss : List Numbered) :
       Ends capacity used strip ds ss (Ok (length ds))
   store :
       (k : ℕ) → Fails capacity used strip ds k → (byte_at strip k ≡ 0 → ⊥) → Quiet strip (k + 1) (k + 1 + k) →
-      Ends capacity used strip ds ss (Failure.Store (number_at ds k))
+      Ends capacity used strip ds ss (Err (Failure.Store (number_at ds k)))
   full :
       (k : ℕ) → Fails capacity used strip ds k → byte_at strip k ≡ 0 → Quiet strip (k + 1) (k + 1 + k) →
-      Ends capacity used strip ds ss (Failure.Full (number_at ds k))
+      Ends capacity used strip ds ss (Err (Failure.Full (number_at ds k)))
   undo :
       (k : ℕ) → Fails capacity used strip ds k → Noisy strip (k + 1) (k + 1 + k) →
-      Ends capacity used strip ds ss (Failure.Undo (number_at ds k))
+      Ends capacity used strip ds ss (Err (Failure.Undo (number_at ds k)))
   source :
       (j : ℕ) → j < length ss → used + length ds ≤ capacity → Quiet strip 0 (length ds + j) →
-      (byte_at strip (length ds + j) ≡ 0 → ⊥) → Ends capacity used strip ds ss (Failure.Source (number_at ss j))
+      (byte_at strip (length ds + j) ≡ 0 → ⊥) → Ends capacity used strip ds ss (Err (Failure.Source (number_at ss j)))
 
 -- how a rollback ends, over its record's destinations in the order of their undo: 12 names the last removal to fail
 pub data RollbackEnds (strip : List ℕ) (items : List Numbered) : Result ℕ Failure → Type 0 where
   accepted : Quiet strip 0 (length items) → RollbackEnds strip items (Ok 0)
   undo :
       (k : ℕ) → k < length items → (byte_at strip k ≡ 0 → ⊥) → Quiet strip (k + 1) (length items) →
-      RollbackEnds strip items (Failure.Undo (number_at items k))
+      RollbackEnds strip items (Err (Failure.Undo (number_at items k)))
 
 -- how a source removal ends: 13 names the first removal to fail
 pub data RemovalEnds (strip : List ℕ) (items : List Numbered) : Result ℕ Failure → Type 0 where
   accepted : Quiet strip 0 (length items) → RemovalEnds strip items (Ok 0)
   source :
       (j : ℕ) → j < length items → Quiet strip 0 j → (byte_at strip j ≡ 0 → ⊥) →
-      RemovalEnds strip items (Failure.Source (number_at items j))
+      RemovalEnds strip items (Err (Failure.Source (number_at items j)))
 
 -- the answer of a call: the first check's that applies, and else by how it ends
-pub data Answered (checks : Result Unit Failure) (ends : Result ℕ Failure → Type 0) (a : Result ℕ Failure) : Type 0 where
-  refused : checks ≡ Err a → Answered checks ends a
-  ended : checks ≡ Ok tt → ends a → Answered checks ends a
+pub data Answered (checks : Result Unit Failure) (ends : Result ℕ Failure → Type 0) : Result ℕ Failure → Type 0 where
+  refused : (why : Failure) → checks ≡ Err why → Answered checks ends (Err why)
+  ended : (a : Result ℕ Failure) → checks ≡ Ok tt → ends a → Answered checks ends a
 
 module _ (head : Head) (table : List ℕ) (c : Call) where
   -- the conditions of each call's answers

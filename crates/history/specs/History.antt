@@ -79,7 +79,7 @@ said_of (c ∷ cs) p there =
 -- the count of these postings under a binding and key; 6 where the binding is not below the index's count
 abbrev pub own_count : Index → List Posting → ℕ → ℕ → Result ℕ Failure
 own_count x ps binding key =
-    cond (ltb binding x.head.bindings) (Ok (counted binding key ps)) (Failure.Guard 0)
+    cond (ltb binding x.head.bindings) (Ok (counted binding key ps)) (Err (Failure.Guard 0))
 
 -- the index of this size and binding count that holds these postings, unpoisoned
 abbrev pub holding : Index → List Posting → Index
