@@ -53,12 +53,6 @@ module _ (t : List ℕ) (used : ℕ) (p : Posting) (at : ℕ) (h : Ordered t use
   pub removed_kept : place_of p (postings used t) ≡ Err at → Carries t used (removed p (postings used t))
   removed_kept e = rw (removed_from_gap p (postings used t) at h.sorted e) h
 
-  pub gap_low : place_of p (postings used t) ≡ Err at → at ≤ used
-  gap_low e = rw h.count (gap_most p (postings used t) at e)
-
-  pub at_low : place_of p (postings used t) ≡ Ok at → at < used
-  at_low e = rw h.count (at_inside p (postings used t) at h.sorted e)
-
   pub inserted_carries :
       (x y : List ℕ) → place_of p (postings used t) ≡ Err at → used * 3 + 3 ≤ length t →
       x ≡ paste t (at * 3 + 3) (drop (at * 3) t) (used * 3 - at * 3) → y ≡ stored (at * 3) p x → Carries y (used + 1) (inserted p (postings used t))
