@@ -1,16 +1,16 @@
--- What a step leaves: the rules' own insertion and removal, seen in a lent table.
-use Rattle.std.specs.Prelude.{ℕ, ◌≡◌, List}
+-- What a step answers: the rules' own insertion and removal, told as a result.
+use Rattle.std.specs.Prelude.{Option, Some, None, Result, Ok, Err, cond}
+use Rattle.rules.specs.declared.Fault.{Fault}
 use Rattle.rules.specs.Storage.{Insertion, Removal}
-use Rattle.table.specs.Holding.{Carries}
-use Rattle.storage.specs.declared.Inserted.{Inserted}
-use Rattle.storage.specs.declared.Removed.{Removed}
 
--- an insertion in a table
-pub record InsertionIn (i : Insertion) (r : Inserted) (table : List ℕ) : Type 0 where
-  pub fault : r.fault ≡ i.fault
-  pub carries : Carries table r.used i.postings
+-- an insertion, or why it failed
+abbrev pub told_fault : Option Fault → Result Unit Fault
+told_fault None = Ok tt
+told_fault (Some fault) = Err fault
 
--- a removal in a table
-pub record RemovalIn (o : Removal) (r : Removed) (table : List ℕ) : Type 0 where
-  pub failed : r.failed ≡ o.failed
-  pub carries : Carries table r.used o.postings
+abbrev pub insertion_answer : Insertion → Result Unit Fault
+insertion_answer i = told_fault i.fault
+
+-- a removal, or that storage failed
+abbrev pub removal_answer : Removal → Result Unit Fault
+removal_answer r = cond r.failed (Err Fault.Store) (Ok tt)

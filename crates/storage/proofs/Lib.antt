@@ -1,2 +1,0 @@
--- The laws of one step, by its byte.
-pub mod Bytes
