@@ -2,9 +2,11 @@
 use Prim.Native.Nat.{ℕ, ◌<◌}
 use native.Mathlib.Omega.{arith}
 use mathlib.Core.Path.{◌≡◌, refl, sym, ap, ◌∙◌}
-use mathlib.Core.Bool.{true, false}
-use lib.Dec.{ltb}
-use borrow.Author.Tests.{lt-ltb, le-ltb}
+use mathlib.Core.Bool.{true, false, ◌&&◌}
+use mathlib.Mathlib.Data.Bool.Basic.{and_elim_left, and_elim_right, and_intro}
+use lib.Dec.{ltb, eqb}
+use borrow.Author.Tests.{lt-ltb, le-ltb, eqb-true, eq-eqb, ne_eqb}
+use Rattle.std.specs.Ordering.{nat_cmp, ordering_then}
 use Rattle.rules.specs.declared.Posting.{Posting}
 use Rattle.std.specs.declared.cmp.Ordering.{Ordering}
 use Rattle.rules.specs.Postings.{ranked, compared, is_before, is_same, same}
@@ -26,6 +28,24 @@ unfolding ranked
 ranked_more a b next h =
     let p : ltb a b ≡ false = le-ltb a b (omega arith) in
     rw (p, lt-ltb b a h)
+
+-- the words of a derived order: the numbers compared, and then what comes next
+pub ranked_then : (a b : ℕ) (next : Ordering) → ranked a b next ≡ ordering_then (nat_cmp a b) next
+ranked_then a b next = go (tri a b)
+  where
+    go : Tri a b → ranked a b next ≡ ordering_then (nat_cmp a b) next
+    go (less l) = rw (ranked_less a b next l, lt-ltb a b l)
+    go (equal e) = rw (ranked_equal a b next e, le-ltb a b (omega arith), eq-eqb a b e)
+    go (more m) = rw (ranked_more a b next m, le-ltb a b (omega arith), ne_eqb a b λ e. omega arith)
+
+-- and where nothing comes next the numbers alone
+ranked_last : (a b : ℕ) → ranked a b Ordering.Equal ≡ nat_cmp a b
+ranked_last a b = go (tri a b)
+  where
+    go : Tri a b → ranked a b Ordering.Equal ≡ nat_cmp a b
+    go (less l) = rw (ranked_less a b Ordering.Equal l, lt-ltb a b l)
+    go (equal e) = rw (ranked_equal a b Ordering.Equal e, le-ltb a b (omega arith), eq-eqb a b e)
+    go (more m) = rw (ranked_more a b Ordering.Equal m, le-ltb a b (omega arith), ne_eqb a b λ e. omega arith)
 
 -- which of the three it is decides; the others are impossible
 pub ranked_same : (a b : ℕ) (next : Ordering) → ranked a b next ≡ Ordering.Equal → (a ≡ b) × (next ≡ Ordering.Equal)
@@ -123,3 +143,35 @@ same_turned p q =
     equal_tests (same p q) (same q p)
     (λ h. rw (same_equal p q h) (same_self q))
     (λ h. rw (same_equal q p h) (same_self p))
+
+-- what a derived `cmp` answers, field after field
+pub derived_order :
+    (p q : Posting) →
+    ordering_then (nat_cmp p.binding q.binding) (ordering_then (nat_cmp p.key q.key) (nat_cmp p.row q.row)) ≡ compared p q
+unfolding compared
+derived_order p q =
+    sym
+    (ranked_then p.binding q.binding _
+    ∙ ap (ordering_then (nat_cmp p.binding q.binding))
+    (ranked_then p.key q.key _ ∙ ap (ordering_then (nat_cmp p.key q.key)) (ranked_last p.row q.row)))
+
+-- and a derived `==`: two postings are one exactly if their numbers are
+pub derived_equality :
+    (p q : Posting) → (eqb p.binding q.binding && (eqb p.key q.key && eqb p.row q.row)) ≡ same p q
+derived_equality p q =
+    equal_tests (eqb p.binding q.binding && (eqb p.key q.key && eqb p.row q.row)) (same p q) there back
+  where
+    there : (eqb p.binding q.binding && (eqb p.key q.key && eqb p.row q.row)) ≡ true → same p q ≡ true
+    there h =
+        let x = and_elim_right (eqb p.binding q.binding) (eqb p.key q.key && eqb p.row q.row) h in
+        let b = eqb-true p.binding q.binding (and_elim_left (eqb p.binding q.binding) (eqb p.key q.key && eqb p.row q.row) h) in
+        let k = eqb-true p.key q.key (and_elim_left (eqb p.key q.key) (eqb p.row q.row) x) in
+        let r = eqb-true p.row q.row (and_elim_right (eqb p.key q.key) (eqb p.row q.row) x) in
+        let e : p ≡ q = λ i. record { binding = b i; key = k i; row = r i } in
+        rw e (same_self q)
+
+    back : same p q ≡ true → (eqb p.binding q.binding && (eqb p.key q.key && eqb p.row q.row)) ≡ true
+    back h =
+        let e = same_equal p q h in
+        and_intro (eq-eqb p.binding q.binding (ap (λ (x : Posting). x.binding) e))
+        (and_intro (eq-eqb p.key q.key (ap (λ (x : Posting). x.key) e)) (eq-eqb p.row q.row (ap (λ (x : Posting). x.row) e)))
