@@ -1,4 +1,5 @@
 -- Where a posting stands among ascending ones, by how many stand before it, and what insertion and removal make of the list there.
+use Rattle.std.proofs.Common.{Ok, Err}
 use Prim.Native.Nat.{ℕ, suc, ◌<◌, ◌≤◌}
 use native.Mathlib.Omega.{arith}
 use mathlib.Core.Path.{◌≡◌, refl, sym, ap, ◌∙◌}
@@ -6,6 +7,7 @@ use mathlib.Core.Logic.{◌⊎◌, inl, inr}
 use mathlib.Core.List.{List, [], ◌∷◌, ◌++◌}
 use mathlib.Core.Bool.{Bool, true, false, cond}
 use lib.ListN.{length, take, drop}
+use Rattle.std.specs.Result.{is_ok}
 use Rattle.rules.specs.declared.Posting.{Posting}
 use Rattle.std.specs.declared.cmp.Ordering.{Ordering}
 use Rattle.rules.specs.Postings.{compared, is_before, is_same, same, chain, ascending, present, placed, inserted, removed}
@@ -13,7 +15,6 @@ use Rattle.booleans.proofs.Tests.{impossible, clash}
 use Rattle.laws.proofs.Ranks.{compared_self, compared_same, after_before, before_after, before_before, same_self}
 use Rattle.laws.proofs.Lists.{removed_absent}
 use Rattle.laws.proofs.Sorted.{chain_before, chain_rest, chain_cons, ascending_rest, absent_before}
-use Rattle.table.specs.declared.Place.{Place}
 use Rattle.table.specs.Holding.{earlier, place_of}
 
 -- nothing that follows a posting which is not before p is before p
@@ -79,7 +80,11 @@ inserted_nowhere : (p : Posting) → inserted p [] ≡ take (earlier p []) [] ++
 unfolding inserted earlier
 inserted_nowhere p = refl
 
-present_nowhere : (p : Posting) → present p [] ≡ false
+pub earlier_nowhere : (p : Posting) → earlier p [] ≡ 0
+unfolding earlier
+earlier_nowhere p = refl
+
+pub present_nowhere : (p : Posting) → present p [] ≡ false
 unfolding present
 present_nowhere p = refl
 
@@ -124,41 +129,49 @@ removed_at p (q ∷ qs) h e = go (compared q p) refl (λ k. removed_at p qs (asc
     go Ordering.Greater k ih = absurd (clash (present p (q ∷ qs)) e (present_after p q qs h k))
 
 -- where a search found it, and whether it stands there
-pub at_present : (p : Posting) (ps : List Posting) (at : ℕ) → place_of p ps ≡ Place.At at → present p ps ≡ true
+pub at_present : (p : Posting) (ps : List Posting) (at : ℕ) → place_of p ps ≡ Ok at → present p ps ≡ true
 unfolding place_of
 at_present p ps at e = go (present p ps) e
   where
-    go : (b : Bool) → cond b (Place.At (earlier p ps)) (Place.Gap (earlier p ps)) ≡ Place.At at → b ≡ true
+    go : (b : Bool) → cond b (Ok (earlier p ps)) (Err (earlier p ps)) ≡ Ok at → b ≡ true
     go true f = refl
     go false f = impossible (cc)
 
-pub gap_absent : (p : Posting) (ps : List Posting) (at : ℕ) → place_of p ps ≡ Place.Gap at → present p ps ≡ false
+pub gap_absent : (p : Posting) (ps : List Posting) (at : ℕ) → place_of p ps ≡ Err at → present p ps ≡ false
 unfolding place_of
 gap_absent p ps at e = go (present p ps) e
   where
-    go : (b : Bool) → cond b (Place.At (earlier p ps)) (Place.Gap (earlier p ps)) ≡ Place.Gap at → b ≡ false
+    go : (b : Bool) → cond b (Ok (earlier p ps)) (Err (earlier p ps)) ≡ Err at → b ≡ false
     go true f = impossible (cc)
     go false f = refl
 
 pub place_earlier :
-    (p : Posting) (ps : List Posting) (at : ℕ) → (place_of p ps ≡ Place.At at) ⊎ (place_of p ps ≡ Place.Gap at) → earlier p ps ≡ at
+    (p : Posting) (ps : List Posting) (at : ℕ) → (place_of p ps ≡ Ok at) ⊎ (place_of p ps ≡ Err at) → earlier p ps ≡ at
 unfolding place_of
 place_earlier p ps at e = go (present p ps) e
   where
     go :
         (b : Bool) →
-        (cond b (Place.At (earlier p ps)) (Place.Gap (earlier p ps)) ≡ Place.At at)
-        ⊎ (cond b (Place.At (earlier p ps)) (Place.Gap (earlier p ps)) ≡ Place.Gap at) →
+        (cond b (Ok (earlier p ps)) (Err (earlier p ps)) ≡ Ok at)
+        ⊎ (cond b (Ok (earlier p ps)) (Err (earlier p ps)) ≡ Err at) →
         earlier p ps ≡ at
     go true (inl f) = cc
     go true (inr f) = impossible (cc)
     go false (inl f) = impossible (cc)
     go false (inr f) = cc
 
-pub gap_most : (p : Posting) (ps : List Posting) (at : ℕ) → place_of p ps ≡ Place.Gap at → at ≤ length ps
+pub found_present : (p : Posting) (ps : List Posting) → is_ok (place_of p ps) ≡ present p ps
+unfolding place_of
+found_present p ps = go (present p ps)
+  where
+    go : (b : Bool) → is_ok (cond b (Ok (earlier p ps)) (Err (earlier p ps))) ≡ b
+    go true = refl
+    go false = refl
+
+pub gap_most : (p : Posting) (ps : List Posting) (at : ℕ) → place_of p ps ≡ Err at → at ≤ length ps
 gap_most p ps at e = rw (← place_earlier p ps at (inr e)) (earlier_most p ps)
 
-pub at_inside : (p : Posting) (ps : List Posting) (at : ℕ) → ascending ps ≡ true → place_of p ps ≡ Place.At at → at < length ps
+pub at_inside : (p : Posting) (ps : List Posting) (at : ℕ) → ascending ps ≡ true → place_of p ps ≡ Ok at → at < length ps
 at_inside p ps at h e = rw (← place_earlier p ps at (inl e)) (earlier_present p ps h (at_present p ps at e))
 
 -- a list that has the posting stays
@@ -175,15 +188,15 @@ inserted_present p (q ∷ qs) h e = go (compared p q) refl (λ k. inserted_prese
 
 -- what insertion and removal make of an ascending list, by where a search found the posting
 module _ (p : Posting) (ps : List Posting) (at : ℕ) (sorted : ascending ps ≡ true) where
-  pub inserted_in_gap : place_of p ps ≡ Place.Gap at → inserted p ps ≡ take at ps ++ p ∷ drop at ps
+  pub inserted_in_gap : place_of p ps ≡ Err at → inserted p ps ≡ take at ps ++ p ∷ drop at ps
   inserted_in_gap e =
       rw (place_earlier p ps at (inr e)) at (inserted_gap p ps sorted (gap_absent p ps at e))
 
-  pub inserted_found : place_of p ps ≡ Place.At at → inserted p ps ≡ ps
+  pub inserted_found : place_of p ps ≡ Ok at → inserted p ps ≡ ps
   inserted_found e = inserted_present p ps sorted (at_present p ps at e)
 
-  pub removed_found : place_of p ps ≡ Place.At at → removed p ps ≡ take at ps ++ drop (suc at) ps
+  pub removed_found : place_of p ps ≡ Ok at → removed p ps ≡ take at ps ++ drop (suc at) ps
   removed_found e = rw (place_earlier p ps at (inl e)) at (removed_at p ps sorted (at_present p ps at e))
 
-  pub removed_from_gap : place_of p ps ≡ Place.Gap at → removed p ps ≡ ps
+  pub removed_from_gap : place_of p ps ≡ Err at → removed p ps ≡ ps
   removed_from_gap e = removed_absent p ps (gap_absent p ps at e)

@@ -1,4 +1,4 @@
--- The numbers of a table three by three: how many postings they are, and which rows they lie in.
+-- The numbers of a table three by three: the rows that its postings lie in, and a posting stored over three numbers.
 use Prim.Native.Nat.{ℕ, zero, suc, ◌+◌, ◌*◌, ◌/◌, ◌≤◌}
 use native.Mathlib.Omega.{arith}
 use native.Mathlib.Numerals.{add-one}
@@ -11,13 +11,6 @@ use Rattle.std.specs.Simd.{first_chunks}
 use Rattle.rules.specs.Table.{cells, postings, numbers}
 use Rattle.rules.specs.declared.Posting.{Posting}
 use Rattle.table_postings.specs.Stored.{posting_of, stored}
-
-pub length_cells : (t : List ℕ) → length (cells t) ≡ length t / 3
-unfolding cells
-length_cells [] = refl
-length_cells (a ∷ []) = refl
-length_cells (a ∷ b ∷ []) = refl
-length_cells (a ∷ b ∷ c ∷ t) = let ih = length_cells t in omega arith
 
 -- the first rows mean the first postings
 rows_cells : (used : ℕ) (t : List ℕ) → used * 3 ≤ length t → map posting_of (first_chunks 3 used t) ≡ take used (cells t)
