@@ -5,12 +5,13 @@
 ghost use Rattle.std.specs.Prelude.{◌<◌, ◌≡◌, [], not, length, get_or};
 ghost use Rattle.rules.specs.Postings.{present};
 ghost use Rattle.rules.specs.Orders.{changes, destinations, sources, postings_of};
-ghost use Rattle.rules.specs.Checks.{twice_check, overlap_check};
-ghost use Rattle.clashes.specs.Keys.{goes_to, one_destination, source_in};
+ghost use Rattle.rules.specs.Checks.{twice_check, present_check, overlap_check};
+ghost use Rattle.clashes.specs.Keys.{goes_to, one_destination, destination_in, source_in};
 ghost use Rattle.clashes.specs.Pairs.{seek};
 
 use changes::Changes;
 use rules::{Change, Failure, Posting};
+use table::Postings;
 
 // The destination of the change is this posting.
 #[tactic(auto, using(laws::proofs::Ranks::derived_equality))]
@@ -49,6 +50,29 @@ pub fn check_twice(list: Changes) -> Result<(), Failure>
 {
     for later in 0..list.len() {
         check_before(list, later)?;
+    }
+    Ok(())
+}
+
+// The destination of a change stands in the table.
+fn is_present(standing: &Postings, change: Change) -> bool
+    ensures { result ≡ destination_in change standing.now }
+{
+    match change.after {
+        Some(key) => standing.contains(change.posting(key)),
+        None => false,
+    }
+}
+
+// 8 PRESENT: the first destination that stands in the table.
+#[tactic(auto, using(crate::proofs::Named::presents_all, crate::proofs::Named::presents_left, crate::proofs::Named::presents_none))]
+pub fn check_present(standing: &Postings, list: Changes) -> Result<(), Failure>
+    ensures { result ≡ present_check standing.now (changes list.entry.numbers.now) }
+{
+    for i in 0..list.len() {
+        if is_present(standing, list.at(i)) {
+            return Err(Failure::Present(i as u32));
+        }
     }
     Ok(())
 }
