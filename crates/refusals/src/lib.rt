@@ -17,6 +17,7 @@ use rules::{Failure, Head};
 use table::Postings;
 
 // 1 TABLE, 2 POISONED.
+#[tactic(auto, unfolding(rules::specs::Checks::first_refusal, rules::specs::Checks::opening_checks, rules::specs::Checks::table_check, rules::specs::Checks::poison_check))]
 fn opening(head: Head, table: &[u32]) -> Result<(), Failure>
     ensures { result ≡ opening_checks head table.now }
 {
@@ -30,6 +31,7 @@ fn opening(head: Head, table: &[u32]) -> Result<(), Failure>
 }
 
 // 3 LIST, 4 STRIP, beside guards that are proper or not.
+#[tactic(auto, unfolding(rules::specs::Checks::first_refusal, rules::specs::Checks::lent_checks, rules::specs::Checks::list_check, rules::specs::Checks::strip_check))]
 fn lent<'a>(list: &'a [u32], paired: bool, strip: &[u8]) -> Result<Changes<'a>, Failure>
     ensures { Admits (lent_checks list.now paired strip.now) list.now result }
 {
@@ -43,6 +45,7 @@ fn lent<'a>(list: &'a [u32], paired: bool, strip: &[u8]) -> Result<Changes<'a>, 
 }
 
 // 5 ROOM.
+#[tactic(auto, unfolding(rules::specs::Checks::room_check))]
 fn room(list: Changes, record: &[u32]) -> Result<(), Failure>
     ensures { result ≡ room_check (changes list.entry.numbers.now) «record».now }
 {
@@ -52,7 +55,15 @@ fn room(list: Changes, record: &[u32]) -> Result<(), Failure>
     Ok(())
 }
 
+// 6 GUARD by the flat numbers of the guards.
+fn guarded(head: Head, list: Changes, pairs: &[u32]) -> Result<(), Failure>
+    ensures { result ≡ guard_check head.bindings (guards pairs.now) (changes list.entry.numbers.now) }
+{
+    check_guards(head.bindings, list, pairs)
+}
+
 // 7 TWICE, 8 PRESENT.
+#[tactic(auto, unfolding(rules::specs::Checks::first_refusal, rules::specs::Checks::arriving_checks))]
 fn arriving(head: Head, table: &[u32], list: Changes) -> Result<(), Failure>
     requires { Ordered table.now head.used }
     ensures { result ≡ arriving_checks (postings head.used table.now) (changes list.entry.numbers.now) }
@@ -62,6 +73,7 @@ fn arriving(head: Head, table: &[u32], list: Changes) -> Result<(), Failure>
 }
 
 // 7 to 9: the destinations, and then the sources.
+#[tactic(auto, unfolding(rules::specs::Checks::first_refusal, rules::specs::Checks::leaving_checks))]
 pub fn clashing(head: Head, table: &[u32], list: Changes) -> Result<(), Failure>
     requires { Ordered table.now head.used }
     ensures { result ≡ first_refusal (arriving_checks (postings head.used table.now) (changes list.entry.numbers.now)
@@ -72,6 +84,7 @@ pub fn clashing(head: Head, table: &[u32], list: Changes) -> Result<(), Failure>
 }
 
 // Publish 1 to 5, beside guards that are proper or not.
+#[tactic(auto, unfolding(rules::specs::Checks::first_refusal, rules::specs::Checks::order_checks))]
 fn of_order<'a>(
     head: Head,
     table: &[u32],
@@ -89,6 +102,7 @@ fn of_order<'a>(
 }
 
 // Publish 1 to 6, beside the flat numbers of the guards.
+#[tactic(auto, unfolding(rules::specs::Checks::first_refusal))]
 pub fn of_publish<'a>(
     head: Head,
     table: &[u32],
@@ -101,11 +115,12 @@ pub fn of_publish<'a>(
         ∷ guard_check head.bindings (guards pairs.now) (changes list.now) ∷ [])) list.now result }
 {
     let changes = of_order(head, table, list, proper_guards(pairs), strip, record)?;
-    check_guards(head.bindings, changes, pairs)?;
+    guarded(head, changes, pairs)?;
     Ok(changes)
 }
 
 // Publish 1 to 6, beside guards that are proper or not, of which the first change with a key that is not held is known.
+#[tactic(auto, unfolding(rules::specs::Checks::first_refusal))]
 pub fn of_publish_beside<'a>(
     head: Head,
     table: &[u32],
@@ -124,6 +139,7 @@ pub fn of_publish_beside<'a>(
 }
 
 // Prepare 1 to 8.
+#[tactic(auto, unfolding(rules::specs::Checks::first_refusal, rules::specs::Checks::prepare_checks))]
 pub fn of_prepare<'a>(
     head: Head,
     table: &[u32],
@@ -137,12 +153,13 @@ pub fn of_prepare<'a>(
     opening(head, table)?;
     let changes = lent(list, proper_guards(pairs), strip)?;
     room(changes, record)?;
-    check_guards(head.bindings, changes, pairs)?;
+    guarded(head, changes, pairs)?;
     arriving(head, table, changes)?;
     Ok(changes)
 }
 
 // Rollback 1 to 4, 6, 14.
+#[tactic(auto, unfolding(rules::specs::Checks::first_refusal, rules::specs::Checks::rollback_checks))]
 pub fn of_rollback<'a>(
     head: Head,
     table: &[u32],
@@ -154,13 +171,14 @@ pub fn of_rollback<'a>(
     ensures { Admits (rollback_checks head table.now (lending list.now pairs.now strip.now «record».now)) list.now result }
 {
     opening(head, table)?;
-    let changes = lent(list, proper_guards(pairs), strip)?;
-    check_guards(head.bindings, changes, pairs)?;
-    check_record(changes, record)?;
-    Ok(changes)
+    let undone = lent(list, proper_guards(pairs), strip)?;
+    guarded(head, undone, pairs)?;
+    check_record(undone, record)?;
+    Ok(undone)
 }
 
 // Removal 1 to 4, 6.
+#[tactic(auto, unfolding(rules::specs::Checks::first_refusal, rules::specs::Checks::removal_checks))]
 pub fn of_removal<'a>(
     head: Head,
     table: &[u32],
@@ -172,11 +190,12 @@ pub fn of_removal<'a>(
 {
     opening(head, table)?;
     let changes = lent(list, proper_guards(pairs), strip)?;
-    check_guards(head.bindings, changes, pairs)?;
+    guarded(head, changes, pairs)?;
     Ok(changes)
 }
 
 // Count 1, 2 and 6, which asks its binding alone.
+#[tactic(auto, unfolding(rules::specs::Checks::first_refusal, rules::specs::Checks::count_checks))]
 pub fn of_count(head: Head, table: &[u32], binding: u32) -> Result<(), Failure>
     ensures { result ≡ count_checks head table.now binding }
 {
