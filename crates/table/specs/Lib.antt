@@ -1,2 +1,3 @@
 -- What the contracts of `table` speak of.
 pub mod Holding
+pub mod Held

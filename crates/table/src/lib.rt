@@ -59,7 +59,6 @@ impl<'a> Postings<'a> {
     }
 
     // How many postings have this binding and key.
-    #[tactic(auto, using(crate::proofs::Counting::counted_by))]
     pub fn count(&self, binding: u32, key: u32) -> usize
         ensures { result ≡ counted binding key self.now }
     {
@@ -79,6 +78,8 @@ pub struct Table<'a> {
 }
 
 impl<'a> Table<'a> {
+    ghost use Rattle.table.specs.Held.{holding, Leaves};
+
     // There is room for one more.
     pub fn has_room(&self) -> bool
         ensures { result ≡ ltb self.now.used (capacity self.now.numbers.now) }
@@ -90,9 +91,7 @@ impl<'a> Table<'a> {
     #[tactic(auto, using(crate::proofs::Keeping::carries_ordered, crate::proofs::Keeping::carries_postings))]
     pub fn insert(&mut self, p: Posting)
         requires { self.old.used < capacity self.old.numbers.now }
-        ensures same_reference { self.new.numbers.ghost_name ≡ self.old.numbers.ghost_name }
-        ensures same_length { length self.new.numbers.now ≡ length self.old.numbers.now }
-        ensures holds { postings self.new.used self.new.numbers.now ≡ inserted p (postings self.old.used self.old.numbers.now) }
+        ensures { Leaves self.old self.new (inserted p (holding self.old)) }
     {
         self.used = insert(self.numbers, self.used, p);
     }
@@ -100,9 +99,7 @@ impl<'a> Table<'a> {
     // The posting gone. A table that lacks it stays.
     #[tactic(auto, using(crate::proofs::Keeping::carries_ordered, crate::proofs::Keeping::carries_postings))]
     pub fn remove(&mut self, p: Posting)
-        ensures same_reference { self.new.numbers.ghost_name ≡ self.old.numbers.ghost_name }
-        ensures same_length { length self.new.numbers.now ≡ length self.old.numbers.now }
-        ensures holds { postings self.new.used self.new.numbers.now ≡ removed p (postings self.old.used self.old.numbers.now) }
+        ensures { Leaves self.old self.new (removed p (holding self.old)) }
     {
         self.used = remove(self.numbers, self.used, p);
     }
