@@ -1,5 +1,5 @@
 -- A change list turn by turn: its length, the change at a place, what a loop that has reached a place still has before it, and what it has behind it.
-use Rattle.std.proofs.Common.{Option, Some, None, ℕ}
+use Rattle.std.proofs.Common.{Option, Some, None}
 use Prim.Native.Nat.{ℕ, zero, suc, ◌+◌, ◌*◌, ◌/◌, ◌<◌, ◌≤◌}
 use native.Mathlib.Numerals.{add-one}
 use native.Mathlib.Omega.{arith}

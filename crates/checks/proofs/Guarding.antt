@@ -17,14 +17,14 @@ use Rattle.laws.proofs.Left.{item_left}
 use Rattle.checks.specs.Guarding.{keys_held, first_unheld, bindings_from}
 
 module _ (bindings unheld : ℕ) (cs : List Change) (i : ℕ) where
-  -- c was read at place i
+  -- change i, and those after it
   pub bindings_left :
-      (c : Change) (b : Bool) → i < length cs → c ≡ get_or cs i no_change →
-      (not (eqb i unheld) && ltb c.binding bindings) ≡ b →
+      i < length cs →
       bindings_from bindings unheld i (drop i cs) ≡
-      or_else (must b (Failure.Guard i)) (bindings_from bindings unheld (i + 1) (drop (i + 1) cs))
+      or_else (must (not (eqb i unheld) && ltb (get_or cs i no_change).binding bindings) (Failure.Guard i))
+      (bindings_from bindings unheld (i + 1) (drop (i + 1) cs))
   unfolding bindings_from
-  bindings_left c b h r e = rw (item_left no_change cs i h, ← r, e)
+  bindings_left h = rw (item_left no_change cs i h)
 
   pub bindings_none : length cs ≤ i → bindings_from bindings unheld i (drop i cs) ≡ Ok tt
   unfolding bindings_from
@@ -63,3 +63,9 @@ unheld_known bindings gs i (c ∷ cs) =
         let later : i ≡ first_unheld gs (i + 1) cs → ⊥ = λ s. let n = not_before gs (i + 1) cs in omega arith in
         rw (ne_eqb i (first_unheld gs (i + 1) cs) later, e, ih, and-true Below)
     go false e ih = rw (eq-eqb i i refl, e, and-false)
+
+-- its binding, and then its keys
+pub guarded_parts :
+    (bindings : ℕ) (gs : List Guard) (c : Change) → guarded bindings gs c ≡ (ltb c.binding bindings && keys_held gs c)
+unfolding guarded
+guarded_parts bindings gs c = and_assoc (ltb c.binding bindings) (key_held c.binding c.before gs) (key_held c.binding c.after gs)

@@ -18,25 +18,6 @@ use Rattle.rules.specs.Checks.{must, or_else, first_refusal, is_named, recordabl
 use Rattle.lent_lists.specs.Among.{among}
 use Rattle.laws.proofs.Checks.{must_holds, else_first, else_second, opened, lent_proper, proper_few, room_places, prepare_passed, rollback_passed, removal_passed}
 
--- a verdict that refused ends the checks
-pub ends : {v x : Result Unit Failure} {a : Result ℕ Failure} (vs : List (Result Unit Failure)) → x ≡ v → x ≡ Err a → x ≡ first_refusal (v ∷ vs)
-unfolding first_refusal
-ends vs e r = r ∙ ap (λ (y : Result Unit Failure). or_else y (first_refusal vs)) (sym r ∙ e)
-
-else_passes : (v : Result Unit Failure) → or_else v (Ok tt) ≡ v
-else_passes (Ok _) = refl
-else_passes (Err a) = refl
-
--- one check
-pub one : {x : Result Unit Failure} (v : Result Unit Failure) → x ≡ v → x ≡ first_refusal (v ∷ [])
-unfolding first_refusal
-one v e = e ∙ sym (else_passes v)
-
--- a verdict that passed leaves the answer to the next
-pub goes_on : {v w x y : Result Unit Failure} → x ≡ v → x ≡ Ok tt → y ≡ w → y ≡ first_refusal (v ∷ w ∷ [])
-unfolding first_refusal
-goes_on {v} {w} e p f = f ∙ (sym (else_passes w) ∙ ap (λ (y : Result Unit Failure). or_else y (or_else w (Ok tt))) (sym p ∙ e))
-
 else_assoc : (u v w : Result Unit Failure) → or_else (or_else u v) w ≡ or_else u (or_else v w)
 else_assoc (Ok _) v w = refl
 else_assoc (Err a) v w = refl

@@ -22,6 +22,19 @@ pub struct Change {
     pub after: Option<u32>,
 }
 
+impl Change {
+    // The posting of the change's row under a key.
+    pub fn posting(self, key: u32) -> Posting
+        ensures { result ≡ record { binding = self.binding; key = key; row = self.row } }
+    {
+        Posting {
+            binding: self.binding,
+            key,
+            row: self.row,
+        }
+    }
+}
+
 // A held guard: whoever publishes holds this key of this index.
 #[repr(C)]
 #[derive(Clone, Copy, PartialEq, Eq)]
