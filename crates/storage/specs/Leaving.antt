@@ -1,16 +1,32 @@
--- What a step answers: the rules' own insertion and removal, told as a result.
-use Rattle.std.specs.Prelude.{Option, Some, None, Result, Ok, Err, cond}
+-- What a step answers and leaves: the rules' own insertion and removal, seen in a lent table with its strip.
+use Rattle.std.specs.Prelude.{ℕ, ◌≡◌, Option, Some, None, Result, Ok, Err, List, length, drop, cond}
 use Rattle.rules.specs.declared.Fault.{Fault}
+use Rattle.rules.specs.declared.Posting.{Posting}
 use Rattle.rules.specs.Storage.{Insertion, Removal}
+use Rattle.rules.specs.Table.{postings}
+use Rattle.storage.specs.declared.Storage.{Storage}
 
--- an insertion, or why it failed
+-- the postings of a table with its strip
+abbrev pub holding : Storage → List Posting
+holding s = postings s.used s.numbers.now
+
+-- the same lent list, as long as it was, with these postings, and so many bytes of the strip read
+abbrev pub Leaves : Storage → Storage → List Posting → ℕ → Type 0
+Leaves before after ps read =
+    (after.numbers.ghost_name ≡ before.numbers.ghost_name)
+    × (length after.numbers.now ≡ length before.numbers.now)
+    × (holding after ≡ ps)
+    × (after.strip.now ≡ drop read before.strip.now)
+
+-- what an insertion met, as a result
 abbrev pub told_fault : Option Fault → Result Unit Fault
 told_fault None = Ok tt
 told_fault (Some fault) = Err fault
 
-abbrev pub insertion_answer : Insertion → Result Unit Fault
-insertion_answer i = told_fault i.fault
+-- an insertion reads one byte
+abbrev pub InsertionIn : Insertion → Result Unit Fault → Storage → Storage → Type 0
+InsertionIn i r before after = (r ≡ told_fault i.fault) × Leaves before after i.postings 1
 
--- a removal, or that storage failed
-abbrev pub removal_answer : Removal → Result Unit Fault
-removal_answer r = cond r.failed (Err Fault.Store) (Ok tt)
+-- and so does a removal, whose one fault is the storage's
+abbrev pub RemovalIn : Removal → Result Unit Fault → Storage → Storage → Type 0
+RemovalIn o r before after = (r ≡ cond o.failed (Err Fault.Store) (Ok tt)) × Leaves before after o.postings 1

@@ -1,8 +1,8 @@
 // The posting table over a lent list of numbers, three to a posting: found, inserted, removed, counted. An inner layer, not
-// delivered: its types are made of a table in order (Ordered), which `table_checks` has tested once for a whole call.
+// delivered: it asks for a table in order (Ordered), which `table_checks` has tested once for a whole call.
 #![tactic(auto)]
 
-ghost use Rattle.std.specs.Prelude.{◌*◌, ◌+◌, ◌<◌, ◌≤◌, ◌≡◌, length, ltb};
+ghost use Rattle.std.specs.Prelude.{◌*◌, ◌+◌, ◌<◌, ◌≤◌, ◌≡◌, length};
 ghost use Rattle.std.specs.List.Sorted.{IsSearchInRange};
 ghost use Rattle.rules.specs.Postings.{present, inserted, removed, counted};
 ghost use Rattle.rules.specs.Table.{capacity, postings};
@@ -69,44 +69,8 @@ impl<'a> Postings<'a> {
     }
 }
 
-// A table that is worked on: the lent list, and how many postings it has.
-#[derive(Drop)]
-pub struct Table<'a> {
-    pub numbers: &'a mut [u32],
-    pub used: usize,
-    ghost ordered: { Ordered numbers.now used },
-}
-
-impl<'a> Table<'a> {
-    ghost use Rattle.table.specs.Held.{holding, Leaves};
-
-    // There is room for one more.
-    pub fn has_room(&self) -> bool
-        ensures { result ≡ ltb self.now.used (capacity self.now.numbers.now) }
-    {
-        self.used < self.numbers.len() / 3
-    }
-
-    // The posting at its place. A table that has it stays.
-    #[tactic(auto, using(crate::proofs::Keeping::carries_ordered, crate::proofs::Keeping::carries_postings))]
-    pub fn insert(&mut self, p: Posting)
-        requires { self.old.used < capacity self.old.numbers.now }
-        ensures { Leaves self.old self.new (inserted p (holding self.old)) }
-    {
-        self.used = insert(self.numbers, self.used, p);
-    }
-
-    // The posting gone. A table that lacks it stays.
-    #[tactic(auto, using(crate::proofs::Keeping::carries_ordered, crate::proofs::Keeping::carries_postings))]
-    pub fn remove(&mut self, p: Posting)
-        ensures { Leaves self.old self.new (removed p (holding self.old)) }
-    {
-        self.used = remove(self.numbers, self.used, p);
-    }
-}
-
 // The posting at its place, those after it one further, and the new used. A table that has it stays.
-fn insert(numbers: &mut [u32], used: usize, p: Posting) -> usize
+pub fn insert(numbers: &mut [u32], used: usize, p: Posting) -> usize
     requires { Ordered numbers.old used × (used < capacity numbers.old) }
     ensures { Carries numbers.new result (inserted p (postings used numbers.old)) }
 {
@@ -121,7 +85,7 @@ fn insert(numbers: &mut [u32], used: usize, p: Posting) -> usize
 }
 
 // The posting gone, those after it one back, zeros in the place set free, and the new used. A table that lacks it stays.
-fn remove(numbers: &mut [u32], used: usize, p: Posting) -> usize
+pub fn remove(numbers: &mut [u32], used: usize, p: Posting) -> usize
     requires { Ordered numbers.old used }
     ensures { Carries numbers.new result (removed p (postings used numbers.old)) }
 {
