@@ -1,83 +1,40 @@
 -- Undo: one change, and the turns of a run from the last change to the first.
-use Rattle.std.proofs.Common.{Option, Some, None, Result, Ok, Err, ℕ}
-use Prim.Native.Nat.{ℕ, zero, suc, ◌+◌, ◌-◌, ◌<◌, ◌≤◌}
+use Rattle.std.proofs.Common.{Option, Some, None, Result, Ok, ℕ}
+use Prim.Native.Nat.{ℕ, zero, suc, ◌+◌, ◌-◌, ◌<◌}
 use native.Mathlib.Omega.{arith}
 use mathlib.Core.Path.{◌≡◌, refl, sym, ap, ◌∙◌}
 use mathlib.Core.List.{List, [], ◌∷◌, ◌++◌, reverse, reverse_aux-eq, append-nil}
-use mathlib.Core.Bool.{Bool, true, cond}
+use mathlib.Core.Bool.{true}
 use mathlib.Mathlib.Data.Bool.Basic.{and_elim_left, and_elim_right}
-use lib.ListN.{length, get_or}
+use lib.ListN.{length, get_or, drop}
+use lib.Seq.{get_or-drop, drop-drop}
 use lib.Dec.{ltb}
 use borrow.Author.Tests.{ltb-true}
 use Rattle.strips.specs.Strips.{byte_at}
 use Rattle.rules.specs.declared.Change.{Change}
 use Rattle.rules.specs.declared.Posting.{Posting}
 use Rattle.rules.specs.declared.Failure.{Failure}
-use Rattle.rules.specs.Table.{postings}
 use Rattle.rules.specs.Orders.{Numbered, named, destination_of, no_change, recorded}
-use Rattle.rules.specs.Storage.{removal}
 use Rattle.rules.specs.Postings.{every}
-use Rattle.rules.specs.Publication.{undoing}
+use Rattle.rules.specs.Publication.{Undone, undoing}
 use Rattle.changes.proofs.Walk.{named_append}
-use Rattle.table.specs.Holding.{Ordered}
-use Rattle.table.proofs.Keeping.{carries_postings, carries_ordered}
-use Rattle.storage.specs.declared.Removed.{Removed}
-use Rattle.steps_undo.specs.declared.Back.{Back}
-use Rattle.storage.specs.Leaving.{RemovalIn}
-use Rattle.steps_undo.specs.Leaving.{UndoneIn, OneUndone, backward, as_recorded}
+use Rattle.storage.specs.declared.Storage.{Storage}
+use Rattle.storage.specs.Leaving.{holding, Leaves}
+use Rattle.steps_undo.specs.Leaving.{UndoneIn, backward, as_recorded}
 
--- a change with no destination leaves all as it is
-pub undone_none :
-    (strip : List ℕ) (number : ℕ) (c : Change) (from : Back) (t : List ℕ) → destination_of c ≡ None → Ordered t from.used →
-    OneUndone strip number c from t from t
-undone_none strip number c from t e h =
-    record {
-      ordered = h;
-      few = omega arith;
-      rest =
-          λ ds. ap (λ (k : Option ℕ). undoing strip (named number c k ds) from.verdict from.read (postings from.used t))
-          e;
-    }
-
-undoing_step :
-    (strip : List ℕ) (d : Numbered) (ds : List Numbered) (v : Result Unit Failure) (read : ℕ) (ps : List Posting) →
-    undoing strip (d ∷ ds) v read ps ≡
-    undoing strip ds
-    (cond (removal (byte_at strip read) d.posting ps).failed (Err (Failure.Undo d.number)) v) (read + 1)
-    (removal (byte_at strip read) d.posting ps).postings
+-- one change is undone, and what is left to undo goes on from there
+one_more :
+    (strip : List ℕ) (number : ℕ) (c : Change) (k : Option ℕ) (ds : List Numbered) (v : Result Unit Failure) (read : ℕ) (ps : List Posting) →
+    undoing strip (named number c k ds) v read ps ≡
+    undoing strip ds (undoing (drop read strip) (named number c k []) v 0 ps).verdict
+    (read + (undoing (drop read strip) (named number c k []) v 0 ps).read)
+    (undoing (drop read strip) (named number c k []) v 0 ps).postings
 unfolding undoing
-undoing_step strip d ds v read ps = refl
-
--- its destination is removed by the next byte, and a failure is kept
-pub undone_one :
-    (strip : List ℕ) (number : ℕ) (c : Change) (key byte : ℕ) (from : Back) (t t' : List ℕ) (r : Removed) (b : Bool) →
-    destination_of c ≡ Some key → byte ≡ byte_at strip from.read →
-    RemovalIn (removal byte (record { binding = c.binding; key = key; row = c.row }) (postings from.used t)) r t' → r.failed ≡ b →
-    OneUndone strip number c from t
-    (record
-    { verdict = cond b (Err (Failure.Undo number)) from.verdict; used = r.used; read = from.read + 1 })
-    t'
-undone_one strip number c key byte from t t' r b e eb o f =
-    let p : Posting = record { binding = c.binding; key = key; row = c.row } in
-    record {
-      ordered = carries_ordered _ _ _ o.carries;
-      few = omega arith;
-      rest =
-          λ ds.
-          rw e
-          (undoing_step strip (record { number = number; posting = p }) ds from.verdict from.read (postings from.used t)
-          ∙ rw (← eb, sym o.failed ∙ f, carries_postings _ _ _ o.carries));
-    }
-
--- a run of undo removals that has come down to i
-pub record Undoing (number : ℕ → ℕ) (cs : List Change) (strip : List ℕ) (n read used : ℕ) (t₀ t : List ℕ) (b : Back) (i : ℕ) : Type 0 where
-  pub low : i ≤ n
-  pub few : b.read + i ≤ read + n
-  pub len : length t ≡ length t₀
-  pub ordered : Ordered t b.used
-  pub is :
-      undoing strip (backward number n cs) (Ok tt) read (postings used t₀) ≡
-      undoing strip (backward number i cs) b.verdict b.read (postings b.used t)
+one_more strip number c None ds v read ps = let n : read + 0 ≡ read = omega arith in rw n
+one_more strip number c (Some key) ds v read ps =
+    let n : read + 0 ≡ read = omega arith in
+    let e : byte_at (drop read strip) 0 ≡ byte_at strip read = get_or-drop read strip 0 0 ∙ ap (byte_at strip) n in
+    rw e
 
 -- no change, and one change further
 pub backward_none : (number : ℕ → ℕ) (cs : List Change) → [] ≡ backward number 0 cs
@@ -92,42 +49,49 @@ unfolding backward
 backward_next number cs zero h = absurd (omega arith)
 backward_next number cs (suc i) h = let e : suc i - 1 ≡ i = omega arith in rw e
 
-module _ {number : ℕ → ℕ} {cs : List Change} {strip : List ℕ} {n read used : ℕ} {t₀ t : List ℕ} {b : Back} {i : ℕ}
-    (z : Undoing number cs strip n read used t₀ t b i) where
-  pub undo_turn :
-      {t' : List ℕ} {b' : Back} → 0 < i → length t' ≡ length t →
-      OneUndone strip (number (i - 1)) (get_or cs (number (i - 1)) no_change) b t b' t' →
-      Undoing number cs strip n read used t₀ t' b' (i - 1)
-  undo_turn {t'} {b'} h l o =
-      let lo = z.low in
-      let fe = z.few in
-      let ofe = o.few in
-      record {
-        low = omega arith;
-        few = omega arith;
-        len = l ∙ z.len;
-        ordered = o.ordered;
-        is =
-            z.is
-            ∙ (ap (λ ds. undoing strip ds b.verdict b.read (postings b.used t)) (backward_next number cs i h)
-            ∙ o.rest (backward number (i - 1) cs));
-      }
-
-  pub undo_end :
-      (most : ℕ) → read + n ≤ most → i ≡ 0 →
-      UndoneIn (undoing strip (backward number n cs) (Ok tt) read (postings used t₀)) b t most
-  unfolding backward undoing
-  undo_end most m e =
-      let fe = z.few in
-      let w = z.is ∙ ap (λ m. undoing strip (backward number m cs) b.verdict b.read (postings b.used t)) e in
-      rw w (record { verdict = refl; carries = z.ordered; read = refl; few = omega arith })
+-- a run of undo removals that has come down to i
+pub record Undoing (number : ℕ → ℕ) (cs : List Change) (n : ℕ) (before after : Storage) (v : Result Unit Failure) (i : ℕ) : Type 0 where
+  pub read : ℕ
+  pub leaves : Leaves before after (holding after) read
+  pub is :
+      undoing before.strip.now (backward number n cs) (Ok tt) 0 (holding before) ≡
+      undoing before.strip.now (backward number i cs) v read (holding after)
 
 -- where the run begins
 pub undo_start :
-    (number : ℕ → ℕ) (cs : List Change) (strip : List ℕ) (n read used : ℕ) (t : List ℕ) → Ordered t used →
-    Undoing number cs strip n read used t t (record { verdict = Ok tt; used = used; read = read }) n
-undo_start number cs strip n read used t h =
-    record { low = omega arith; few = omega arith; len = refl; ordered = h; is = refl }
+    (number : ℕ → ℕ) (cs : List Change) (n : ℕ) (s : Storage) → Undoing number cs n s s (Ok tt) n
+undo_start number cs n s = record { read = 0; leaves = (refl, refl, refl, refl); is = refl }
+
+module _ {number : ℕ → ℕ} {cs : List Change} {n : ℕ} {before after : Storage} {v : Result Unit Failure} {i : ℕ}
+    (z : Undoing number cs n before after v i) where
+  pub undo_turn :
+      {next : Storage} {r : Result Unit Failure} → 0 < i →
+      UndoneIn
+      (undoing after.strip.now
+      (named (number (i - 1)) (get_or cs (number (i - 1)) no_change) (destination_of (get_or cs (number (i - 1)) no_change)) [])
+      v 0 (holding after))
+      r after next →
+      Undoing number cs n before next r (i - 1)
+  undo_turn {next} {r} h o =
+      let c : Change = get_or cs (number (i - 1)) no_change in
+      let b : List ℕ = before.strip.now in
+      let here : after.strip.now ≡ drop z.read b = z.leaves.3 in
+      let u : Undone = undoing after.strip.now (named (number (i - 1)) c (destination_of c) []) v 0 (holding after) in
+      record {
+        read = z.read + u.read;
+        leaves =
+            (o.1.0 ∙ z.leaves.0, o.1.1 ∙ z.leaves.1, refl, o.1.3 ∙ (ap (drop u.read) here ∙ drop-drop u.read z.read b));
+        is =
+            z.is
+            ∙ (ap (λ ds. undoing b ds v z.read (holding after)) (backward_next number cs i h)
+            ∙ (one_more b (number (i - 1)) c (destination_of c) (backward number (i - 1) cs) v z.read (holding after)
+            ∙ rw (← here, o.0, o.1.2) refl));
+      }
+
+  pub undo_end : i ≡ 0 → UndoneIn (undoing before.strip.now (backward number n cs) (Ok tt) 0 (holding before)) v before after
+  unfolding backward undoing
+  undo_end e =
+      rw (z.is ∙ ap (λ m. undoing before.strip.now (backward number m cs) v z.read (holding after)) e) (refl, z.leaves)
 
 -- a record from its end to its start
 named_reverse :
