@@ -1,0 +1,2 @@
+-- What the contracts of `steps_sources` speak of.
+pub mod Clearing
