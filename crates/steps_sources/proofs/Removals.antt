@@ -3,7 +3,7 @@ use Rattle.std.proofs.Common.{Option, Some, None, Result, Ok, Err}
 use Prim.Native.Nat.{ℕ, ◌+◌, ◌<◌, ◌≤◌}
 use native.Mathlib.Omega.{arith}
 use mathlib.Core.Path.{◌≡◌, refl, sym, ap, ◌∙◌}
-use mathlib.Core.List.{List}
+use mathlib.Core.List.{List, [], ◌∷◌}
 use mathlib.Core.Bool.{Bool, true, false, cond}
 use lib.ListN.{length, drop, get_or}
 use lib.Seq.{get_or-drop, drop-drop}
@@ -13,9 +13,9 @@ use Rattle.rules.specs.declared.Change.{Change}
 use Rattle.rules.specs.declared.Fault.{Fault}
 use Rattle.rules.specs.declared.Failure.{Failure}
 use Rattle.rules.specs.declared.Posting.{Posting}
-use Rattle.rules.specs.Orders.{named, source_of, sources, sources_from, no_change}
-use Rattle.rules.specs.Storage.{removal}
-use Rattle.rules.specs.Publication.{removing}
+use Rattle.rules.specs.Orders.{Numbered, named, source_of, sources, sources_from, no_change}
+use Rattle.rules.specs.Storage.{Removal, removal}
+use Rattle.rules.specs.Publication.{Stage, removing}
 use Rattle.changes.proofs.Walk.{sources_left, sources_none}
 use Rattle.storage.specs.declared.Storage.{Storage}
 use Rattle.storage.specs.Leaving.{holding, Leaves, RemovalIn}
@@ -100,3 +100,25 @@ module _ {cs : List Change} {clear : Result ℕ Failure} {before after : Storage
             (x : Fault) → r ≡ Err x →
             StageIn (removing before.strip.now clear (sources cs) 0 (holding before)) (Err (Failure.Source i)) before next
         remove_stop x e = rw (stepped, failed_lem _ x (sym o.0 ∙ e)) (refl, step_leaves)
+
+-- a stage with more bytes read before it
+abbrev pub later : ℕ → Stage → Stage
+later start s = record { answer = s.answer; postings = s.postings; read = start + s.read }
+
+either : (start : ℕ) (b : Bool) (stop stop' more more' : Stage) → stop ≡ later start stop' → more ≡ later start more' → cond b stop more ≡ later start (cond b stop' more')
+either start true stop stop' more more' p q = p
+either start false stop stop' more more' p q = q
+
+-- removals that begin later in the strip are those on what is left of it, but for the count of bytes read
+pub removing_later :
+    (strip : List ℕ) (clear : Result ℕ Failure) (ss : List Numbered) (start read : ℕ) (ps : List Posting) →
+    removing strip clear ss (start + read) ps ≡ later start (removing (drop start strip) clear ss read ps)
+unfolding removing
+removing_later strip clear [] start read ps = refl
+removing_later strip clear (s ∷ ss) start read ps =
+    let r : Removal = removal (byte_at strip (start + read)) s.posting ps in
+    let n : start + read + 1 ≡ start + (read + 1) = omega arith in
+    rw (get_or-drop start strip read 0)
+    (either start r.failed _ _ _ _
+    (λ i. record { answer = Err (Failure.Source s.number); postings = r.postings; read = n i })
+    (ap (λ m. removing strip clear ss m r.postings) n ∙ removing_later strip clear ss start (read + 1) r.postings))
