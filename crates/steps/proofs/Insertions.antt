@@ -174,7 +174,9 @@ module _ {cs : List Change} {before after : Storage} {inserted i : ℕ} (z : Pre
       prepare_stop fault why end e u =
           let n : z.read + 1 + 0 ≡ z.read + 1 = omega arith in
           let later = undoing_later before.strip.now (z.read + 1) (backward in_order i cs) (Ok tt) 0 (holding next) in
-          rw
-          (stepped (Some fault) (some_met _ fault (sym o.0 ∙ e)) ∙ blamed_ends fault i _ _
-          ∙ ap (not_inserted (blamed_on fault i) i) (rw n at later), ← reached.3)
+          rw (
+            stepped (Some fault) (some_met _ fault (sym o.0 ∙ e)) ∙ blamed_ends fault i _ _
+                ∙ ap (not_inserted (blamed_on fault i) i) (rw n at later),
+            ← reached.3,
+          )
           (u.0, leaves_then before next end (z.read + 1) _ reached u.1)
