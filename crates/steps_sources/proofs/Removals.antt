@@ -19,7 +19,7 @@ use Rattle.rules.specs.Publication.{Stage, removing}
 use Rattle.changes.proofs.Walk.{sources_left, sources_none}
 use Rattle.storage.specs.declared.Storage.{Storage}
 use Rattle.storage.specs.Leaving.{holding, Leaves, RemovalIn}
-use Rattle.steps_sources.specs.Clearing.{StageIn}
+use Rattle.steps.specs.Leaving.{StageIn}
 
 -- a source removal that has come up to i
 pub record Removing (cs : List Change) (clear : Result ℕ Failure) (before after : Storage) (i : ℕ) : Type 0 where

@@ -7,7 +7,7 @@ ghost use Rattle.lent_lists.specs.Written.{written};
 ghost use Rattle.rules.specs.Orders.{changes, destinations, sources, change_numbers};
 ghost use Rattle.rules.specs.Publication.{removing};
 ghost use Rattle.storage.specs.Leaving.{holding};
-ghost use Rattle.steps_sources.specs.Clearing.{StageIn};
+ghost use Rattle.steps.specs.Leaving.{StageIn};
 
 use changes::Changes;
 use rules::{Answer, Failure};

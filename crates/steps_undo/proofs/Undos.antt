@@ -1,13 +1,13 @@
 -- Undo: one change, and the turns of a run from the last change to the first.
-use Rattle.std.proofs.Common.{Option, Some, None, Result, Ok, ℕ}
+use Rattle.std.proofs.Common.{Option, Some, None, Result, Ok, Err, ℕ}
 use Prim.Native.Nat.{ℕ, zero, suc, ◌+◌, ◌-◌, ◌<◌}
 use native.Mathlib.Omega.{arith}
 use mathlib.Core.Path.{◌≡◌, refl, sym, ap, ◌∙◌}
 use mathlib.Core.List.{List, [], ◌∷◌, ◌++◌, reverse, reverse_aux-eq, append-nil}
-use mathlib.Core.Bool.{true}
+use mathlib.Core.Bool.{true, cond}
 use mathlib.Mathlib.Data.Bool.Basic.{and_elim_left, and_elim_right}
 use lib.ListN.{length, get_or, drop}
-use lib.Seq.{get_or-drop, drop-drop}
+use lib.Seq.{get_or-drop}
 use lib.Dec.{ltb}
 use borrow.Author.Tests.{ltb-true}
 use Rattle.strips.specs.Strips.{byte_at}
@@ -15,12 +15,39 @@ use Rattle.rules.specs.declared.Change.{Change}
 use Rattle.rules.specs.declared.Posting.{Posting}
 use Rattle.rules.specs.declared.Failure.{Failure}
 use Rattle.rules.specs.Orders.{Numbered, named, destination_of, no_change, recorded}
+use Rattle.rules.specs.Storage.{removal}
 use Rattle.rules.specs.Postings.{every}
 use Rattle.rules.specs.Publication.{Undone, undoing}
 use Rattle.changes.proofs.Walk.{named_append}
 use Rattle.storage.specs.declared.Storage.{Storage}
 use Rattle.storage.specs.Leaving.{holding, Leaves}
+use Rattle.storage.proofs.Following.{leaves_all, leaves_then}
 use Rattle.steps_undo.specs.Leaving.{UndoneIn, backward, as_recorded}
+
+undoing_step :
+    (strip : List ℕ) (d : Numbered) (ds : List Numbered) (v : Result Unit Failure) (read : ℕ) (ps : List Posting) →
+    undoing strip (d ∷ ds) v read ps ≡
+    undoing strip ds
+    (cond (removal (byte_at strip read) d.posting ps).failed (Err (Failure.Undo d.number)) v) (read + 1)
+    (removal (byte_at strip read) d.posting ps).postings
+unfolding undoing
+undoing_step strip d ds v read ps = refl
+
+undoing_nothing : (strip : List ℕ) (v : Result Unit Failure) (read : ℕ) (ps : List Posting) → undoing strip [] v read ps ≡ record { verdict = v; postings = ps; read = read }
+unfolding undoing
+undoing_nothing strip v read ps = refl
+
+-- a run that begins where so many bytes are read is the run over the bytes that are left, and has read that many more
+pub undoing_later :
+    (strip : List ℕ) (n : ℕ) (ds : List Numbered) (v : Result Unit Failure) (read : ℕ) (ps : List Posting) →
+    undoing strip ds v (n + read) ps ≡ record
+    { verdict = (undoing (drop n strip) ds v read ps).verdict; postings = (undoing (drop n strip) ds v read ps).postings; read = n + (undoing (drop n strip) ds v read ps).read }
+undoing_later strip n [] v read ps = rw (undoing_nothing strip v (n + read) ps, undoing_nothing (drop n strip) v read ps)
+undoing_later strip n (d ∷ ds) v read ps =
+    let next : n + read + 1 ≡ n + (read + 1) = omega arith in
+    let byte : byte_at (drop n strip) read ≡ byte_at strip (n + read) = get_or-drop n strip read 0 in
+    rw (undoing_step strip d ds v (n + read) ps, undoing_step (drop n strip) d ds v read ps, byte, next)
+    (undoing_later strip n ds _ (read + 1) _)
 
 -- one change is undone, and what is left to undo goes on from there
 one_more :
@@ -32,9 +59,7 @@ one_more :
 unfolding undoing
 one_more strip number c None ds v read ps = let n : read + 0 ≡ read = omega arith in rw n
 one_more strip number c (Some key) ds v read ps =
-    let n : read + 0 ≡ read = omega arith in
-    let e : byte_at (drop read strip) 0 ≡ byte_at strip read = get_or-drop read strip 0 0 ∙ ap (byte_at strip) n in
-    rw e
+    let n : read + 0 ≡ read = omega arith in rw (get_or-drop read strip 0 0, n)
 
 -- no change, and one change further
 pub backward_none : (number : ℕ → ℕ) (cs : List Change) → [] ≡ backward number 0 cs
@@ -60,7 +85,7 @@ pub record Undoing (number : ℕ → ℕ) (cs : List Change) (n : ℕ) (before a
 -- where the run begins
 pub undo_start :
     (number : ℕ → ℕ) (cs : List Change) (n : ℕ) (s : Storage) → Undoing number cs n s s (Ok tt) n
-undo_start number cs n s = record { read = 0; leaves = (refl, refl, refl, refl); is = refl }
+undo_start number cs n s = record { read = 0; leaves = leaves_all s; is = refl }
 
 module _ {number : ℕ → ℕ} {cs : List Change} {n : ℕ} {before after : Storage} {v : Result Unit Failure} {i : ℕ}
     (z : Undoing number cs n before after v i) where
@@ -79,8 +104,7 @@ module _ {number : ℕ → ℕ} {cs : List Change} {n : ℕ} {before after : Sto
       let u : Undone = undoing after.strip.now (named (number (i - 1)) c (destination_of c) []) v 0 (holding after) in
       record {
         read = z.read + u.read;
-        leaves =
-            (o.1.0 ∙ z.leaves.0, o.1.1 ∙ z.leaves.1, refl, o.1.3 ∙ (ap (drop u.read) here ∙ drop-drop u.read z.read b));
+        leaves = let l = leaves_then before after next z.read u.read z.leaves o.1 in (l.0, l.1, refl, l.3);
         is =
             z.is
             ∙ (ap (λ ds. undoing b ds v z.read (holding after)) (backward_next number cs i h)

@@ -1,2 +1,0 @@
--- What the contracts of `steps_sources` speak of.
-pub mod Clearing

@@ -1,0 +1,2 @@
+-- What steps that follow each other leave.
+pub mod Following
