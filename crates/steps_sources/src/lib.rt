@@ -2,17 +2,15 @@
 // strip. A part of the steps. An inner layer, not delivered.
 #![tactic(auto)]
 
-ghost use Rattle.std.specs.Prelude.{◌≤◌, ◌≡◌, ℕ, Result, length};
-ghost use Rattle.rules.specs.declared.Failure.{Failure};
+ghost use Rattle.std.specs.Prelude.{◌≤◌, ◌≡◌, length};
 ghost use Rattle.lent_lists.specs.Written.{written};
-ghost use Rattle.rules.specs.Answers.{settled};
 ghost use Rattle.rules.specs.Orders.{changes, destinations, sources, change_numbers};
 ghost use Rattle.rules.specs.Publication.{removing};
 ghost use Rattle.storage.specs.Leaving.{holding};
 ghost use Rattle.steps.specs.Leaving.{StageIn};
 
 use changes::Changes;
-use rules::Failure;
+use rules::{Answer, Failure};
 use storage::Storage;
 
 // The record of a prepare: the numbers of the changes with a destination, ascending. It is written after the last insertion.
@@ -21,30 +19,31 @@ pub fn write_record(list: Changes, record: &mut [u32])
     ensures { «record».new ≡ written (change_numbers (destinations (changes list.entry.numbers.now)))
         «record».old }
 {
-    let mut place = 0;
-    for i in 0..list.len() {
-        let Some(_) = list.at(i).after else {
+    let mut place: usize = 0;
+    for number in 0..list.len() {
+        let Some(_) = list.at(number).after else {
             continue;
         };
-        record[place] = i as u32;
+        record[place] = number as u32;
         place += 1;
     }
 }
 
-// Source removal: up the list over the befores, to the first failure. Where none failed the answer is what it was to be.
-pub fn remove_sources(storage: &mut Storage, list: Changes) -> Result<(), Failure>
-    ensures { (clear : Result ℕ Failure) → StageIn
+// Source removal: up the list over the befores, to the first failure. The answer is this one where none failed.
+pub fn remove_sources(storage: &mut Storage, list: Changes, clear: Answer) -> Answer
+    ensures { StageIn
         (removing storage.old.strip.now clear (sources (changes list.entry.numbers.now)) 0 (holding storage.old))
-        (settled result clear) storage.old storage.new }
+        result storage.old storage.new }
 {
-    for i in 0..list.len() {
-        let change = list.at(i);
+    for number in 0..list.len() {
+        let change = list.at(number);
         let Some(key) = change.before else {
             continue;
         };
-        if storage.remove(change.posting(key)).is_err() {
-            return Err(Failure::Source(i as u32));
+        match storage.remove(change.posting(key)) {
+            Ok(()) => {}
+            Err(_) => return Err(Failure::Source(number as u32)),
         }
     }
-    Ok(())
+    clear
 }

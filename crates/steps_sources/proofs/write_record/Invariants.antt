@@ -3,5 +3,5 @@ use Rattle.rules.specs.Orders.{changes}
 use Rattle.steps_sources.proofs.Writing.{Recording}
 use Rattle.steps_sources.proofs.write_record.Given as goal
 
-abbrev pub invariant-loop-i : goal.invariant-loop-i
-invariant-loop-i l = Recording (changes l.list.numbers.now) l.initial.«record» l.«record» l.place l.i
+abbrev pub invariant-loop-number : goal.invariant-loop-number
+invariant-loop-number l = Recording (changes l.list.numbers.now) l.initial.«record» l.«record» l.place l.number
