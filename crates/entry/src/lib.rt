@@ -17,6 +17,7 @@ pub fn poison_indexes(head: &mut Head)
 }
 
 // The pair (binding, key) is among the guards.
+#[tactic(auto, using(guarding::proofs::Asking::held_by_any))]
 pub fn held(guards: &[Guard], binding: u32, key: u32) -> bool
     ensures { HeldPromise guards.now binding key result }
 {
@@ -35,7 +36,7 @@ fn is_held(guards: &[Guard], wanted: Option<Guard>) -> bool
 fn first_unheld(poisoned: u32, guards: &[Guard], list: &[u32]) -> usize
     ensures { result ≡ unheld_place poisoned guards.now list.now }
 {
-    let Some(list) = guarding::asking(poisoned, list, guards.len()) else {
+    let Some(list) = guarding::changes_asked(poisoned, list, guards.len()) else {
         return 0;
     };
     let places = list.len() * 2;

@@ -5,7 +5,8 @@
 ghost use Rattle.std.specs.Prelude.{◌*◌, ◌<◌, ◌≡◌, length, MatchOption};
 ghost use Rattle.rules.specs.Orders.{changes};
 ghost use Rattle.guarding.specs.Asking.{wanted_of, wanted_at, keys_asked};
-ghost use Rattle.guarding.specs.InPlace.{ByValuePromise};
+ghost use Rattle.rules.specs.Calls.{outcome_of};
+ghost use Rattle.guarding.specs.InPlace.{value_of, ByValuePromise};
 
 use changes::Changes;
 use checks::MOST_GUARDS;
@@ -21,7 +22,7 @@ pub struct Published {
 
 // The changes whose keys are asked for: none where the poison flag is set, which 1 or 2 refuses, or beside lists that are over their
 // limits, which 3 refuses. So no guard is walked for these.
-pub fn asking(poisoned: u32, list: &[u32], guards: usize) -> Option<Changes>
+pub fn changes_asked(poisoned: u32, list: &[u32], guards: usize) -> Option<Changes>
     ensures { MatchOption result (keys_asked poisoned guards list.now ≡ 0)
         (λ all. (all.numbers.now ≡ list.now) × (keys_asked poisoned guards list.now ≡ length (changes list.now) * 2)) }
 {
@@ -53,7 +54,29 @@ pub fn wanted_at(list: Changes, place: usize) -> Option<Guard>
     as_wanted(change.binding, key)
 }
 
-// The by-value call, beside so many guards and the first place whose key they do not hold.
+// The core beside so many guards and the first place whose key they do not hold.
+fn publish_beside(
+    head: Head,
+    table: &mut [u32],
+    list: &[u32],
+    guards: usize,
+    unheld: usize,
+    strip: &[u8],
+    record: &mut [u32],
+) -> Done
+    ensures { outcome_of result table.new «record».new ≡ value_of head table.old list.now guards unheld strip.now «record».old }
+{
+    let paired = guards <= MOST_GUARDS;
+    match refusals::of_publish_beside(head, table, list, paired, unheld / 2, strip, record) {
+        Ok(list) => publish_core::publish(head, table, list, strip, record),
+        Err(why) => Done {
+            head,
+            answer: Err(why),
+        },
+    }
+}
+
+// The by-value call: the head comes back with the poison flag as it was lent, and whether it is to be set is told apart.
 pub fn publish_by_value(
     head: Head,
     table: &mut [u32],
@@ -66,18 +89,10 @@ pub fn publish_by_value(
     ensures { ByValuePromise head table.old list.now guards unheld strip.now
         «record».old result table.new «record».new }
 {
-    let paired = guards <= MOST_GUARDS;
-    let done = match refusals::of_publish_beside(head, table, list, paired, unheld / 2, strip, record) {
-        Ok(list) => publish_core::publish(head, table, list, strip, record),
-        Err(why) => Done {
-            head,
-            answer: Err(why),
-        },
-    };
-    let answer = done.answer;
+    let done = publish_beside(head, table, list, guards, unheld, strip, record);
     let after = done.head;
     Published {
-        answer,
+        answer: done.answer,
         head: Head {
             bindings: after.bindings,
             used: after.used,

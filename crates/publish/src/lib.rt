@@ -95,6 +95,7 @@ pub fn publish(
 }
 
 // How many postings a binding and key have.
+#[tactic(auto, using(laws::proofs::Checks::count_formed), unfolding(rules::specs::Calls::count_of))]
 pub fn count(head: Head, table: &[u32], binding: u32, key: u32) -> Answer
     ensures { CountPromise head table.now binding key result }
 {

@@ -9,7 +9,7 @@ use Rattle.rules.specs.declared.Head.{Head}
 use Rattle.rules.specs.Table.{postings}
 use Rattle.rules.specs.Orders.{changes, guards, proper_guards, proper_lists, lending}
 use Rattle.rules.specs.Checks.{or_else, first_refusal, guard_check, arriving_checks, leaving_checks, order_checks, publish_beside, publish_checks}
-use Rattle.rules.specs.Calls.{publish_of}
+use Rattle.rules.specs.Calls.{as_before, publish_of}
 use Rattle.laws.proofs.Checks.{passed, opened, lent_proper, proper_few, room_places, order_passed}
 use Rattle.refusals.proofs.Firsts.{joined}
 use Rattle.publish_core.specs.Core.{Ready, core_of}
@@ -64,3 +64,9 @@ module _ (head : Head) (table cs gs : List ℕ) (paired : Bool) (guarding earlie
 pub core_after :
     (head : Head) (table cs strip list : List ℕ) {v w : Result Unit Failure} → v ≡ w → core_of head table cs v strip list ≡ core_of head table cs w strip list
 core_after head table cs strip list e = ap (λ (v : Result Unit Failure). core_of head table cs v strip list) e
+
+-- and refuses with one that does
+pub core_refuses :
+    (head : Head) (table cs strip list : List ℕ) (why : Failure) → core_of head table cs (Err why) strip list ≡ as_before head table list (Err why)
+unfolding core_of first_refusal
+core_refuses head table cs strip list why = refl

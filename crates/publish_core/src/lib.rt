@@ -11,6 +11,7 @@ use changes::Changes;
 use rules::{Done, Head};
 
 // 7 to 9, and then the work.
+#[tactic(auto, unfolding(crate::specs::Core::core_of, rules::specs::Checks::first_refusal))]
 pub fn publish(
     head: Head,
     table: &mut [u32],

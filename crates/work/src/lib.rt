@@ -2,16 +2,19 @@
 // here and not tested again.
 #![tactic(auto)]
 
-ghost use Rattle.std.specs.Prelude.{◌≤◌, ◌<◌, ◌^◌, ◌≡◌, [], Ok, true, cond, length, ltb};
+ghost use Rattle.std.specs.Prelude.{◌≤◌, ◌<◌, ◌^◌, ◌≡◌, [], true, cond, length, ltb};
 ghost use Rattle.rules.specs.Postings.{every, counted};
 ghost use Rattle.rules.specs.Table.{postings, well_formed};
-ghost use Rattle.rules.specs.Orders.{changes};
+ghost use Rattle.rules.specs.Orders.{changes, destinations, sources};
 ghost use Rattle.rules.specs.Answers.{poisons};
-ghost use Rattle.rules.specs.Calls.{head_with, outcome_of, prepare_work, rollback_work, removal_work, publish_work};
+ghost use Rattle.rules.specs.Publication.{then_sources};
+ghost use Rattle.rules.specs.Calls.{head_with, record_after, outcome_of, prepare_work, rollback_work, removal_work, publish_work};
+ghost use Rattle.steps.specs.Leaving.{StageIn};
+ghost use Rattle.work.specs.Bringing.{brought};
 
 use answers::flag_after;
 use changes::Changes;
-use rules::{Answer, Done, Failure, Head};
+use rules::{Answer, Done, Head};
 use steps_sources::{remove_sources, write_record};
 use storage::Storage;
 use table::Postings;
@@ -31,7 +34,48 @@ fn done(head: Head, used: usize, answer: Answer) -> Done
     }
 }
 
-// The record is written only after the last insertion.
+// The lent table of a well-formed head, with the strip by which its storage behaves.
+fn stored<'a, 's>(head: Head, table: &'a mut [u32], strip: &'s [u8]) -> Storage<'a, 's>
+    requires { well_formed head table.old ≡ true }
+    ensures same_reference { result.numbers.ghost_name ≡ table.entry.ghost_name }
+    ensures same_numbers { result.numbers.now ≡ table.old }
+    ensures used { result.used ≡ head.used }
+    ensures strip { result.strip.now ≡ strip.now }
+{
+    Storage {
+        numbers: table,
+        used: head.used as usize,
+        strip,
+    }
+}
+
+// The destinations come in. The record is written only after the last insertion.
+fn bring(storage: &mut Storage, list: Changes, record: &mut [u32]) -> Answer
+    requires { length (changes list.numbers.now) ≤ length «record».old }
+    ensures stage { StageIn (brought storage.old (changes list.entry.numbers.now)) result storage.old storage.new }
+    ensures record_list { «record».new ≡ record_after (brought storage.old (changes list.entry.numbers.now))
+        (destinations (changes list.entry.numbers.now)) «record».old }
+{
+    let inserted = steps::prepare(storage, list)?;
+    write_record(list, record);
+    Ok(inserted)
+}
+
+// Sources stay until every destination is in.
+fn bring_and_clear(storage: &mut Storage, list: Changes, record: &mut [u32]) -> Answer
+    requires { length (changes list.numbers.now) ≤ length «record».old }
+    ensures stage { StageIn
+        (then_sources storage.old.strip.now (sources (changes list.entry.numbers.now))
+        (brought storage.old (changes list.entry.numbers.now)))
+        result storage.old storage.new }
+    ensures record_list { «record».new ≡ record_after (brought storage.old (changes list.entry.numbers.now))
+        (destinations (changes list.entry.numbers.now)) «record».old }
+{
+    let inserted = bring(storage, list, record)?;
+    remove_sources(storage, list, Ok(inserted))
+}
+
+// Accepted where every destination came in.
 pub fn prepare(
     head: Head,
     table: &mut [u32],
@@ -44,28 +88,12 @@ pub fn prepare(
     ensures { outcome_of result table.new «record».new ≡ prepare_work head table.old (changes list.entry.numbers.now)
         strip.now «record».old }
 {
-    let mut storage = Storage {
-        numbers: table,
-        used: head.used as usize,
-        strip,
-    };
-    let answer = steps::prepare(&mut storage, list);
-    if answer.is_ok() {
-        write_record(list, record);
-    }
+    let mut storage = stored(head, table, strip);
+    let answer = bring(&mut storage, list, record);
     done(head, storage.used, answer)
 }
 
-// Sources stay until every destination is in.
-fn bring_and_clear(storage: &mut Storage, list: Changes, record: &mut [u32]) -> Answer
-{
-    let brought = steps::prepare(storage, list)?;
-    write_record(list, record);
-    remove_sources(storage, list)?;
-    Ok(brought)
-}
-
-// The destinations come in, and then the sources go.
+// Accepted where every destination came in and every source went.
 pub fn publish(
     head: Head,
     table: &mut [u32],
@@ -78,35 +106,21 @@ pub fn publish(
     ensures { outcome_of result table.new «record».new ≡ publish_work head table.old (changes list.entry.numbers.now)
         strip.now «record».old }
 {
-    let mut storage = Storage {
-        numbers: table,
-        used: head.used as usize,
-        strip,
-    };
+    let mut storage = stored(head, table, strip);
     let answer = bring_and_clear(&mut storage, list, record);
     done(head, storage.used, answer)
 }
 
 // Accepted where no removal failed, else 12 with the last change whose removal did.
-pub fn rollback(
-    head: Head,
-    table: &mut [u32],
-    list: Changes,
-    strip: &[u8],
-    record: &[u32],
-) -> Done
+pub fn rollback(head: Head, table: &mut [u32], list: Changes, strip: &[u8], record: &[u32]) -> Done
     requires table_formed { well_formed head table.old ≡ true }
     requires record_in_bounds { every (λ n. ltb n (length (changes list.numbers.now))) «record».now ≡ true }
     ensures { outcome_of result table.new «record».now ≡ rollback_work head table.old (changes list.entry.numbers.now)
         strip.now «record».now }
 {
-    let mut storage = Storage {
-        numbers: table,
-        used: head.used as usize,
-        strip,
-    };
+    let mut storage = stored(head, table, strip);
     let undone = steps_undo::rollback(&mut storage, list, record);
-    done(head, storage.used, undone.map(|()| 0))
+    done(head, storage.used, undone.and(Ok(0)))
 }
 
 // Accepted where no removal failed, else 13 with the change whose removal did.
@@ -114,13 +128,9 @@ pub fn remove(head: Head, table: &mut [u32], list: Changes, strip: &[u8]) -> Don
     requires { well_formed head table.old ≡ true }
     ensures { outcome_of result table.new [] ≡ removal_work head table.old (changes list.entry.numbers.now) strip.now [] }
 {
-    let mut storage = Storage {
-        numbers: table,
-        used: head.used as usize,
-        strip,
-    };
-    let cleared = remove_sources(&mut storage, list);
-    done(head, storage.used, cleared.map(|()| 0))
+    let mut storage = stored(head, table, strip);
+    let answer = remove_sources(&mut storage, list, Ok(0));
+    done(head, storage.used, answer)
 }
 
 // The number of postings, which fits: a table has at most 4,096.
