@@ -44,8 +44,7 @@ impl<'a> Postings<'a> {
 
     // Where a posting stands, or would.
     pub fn find(&self, p: Posting) -> Result<usize, usize>
-        ensures bound { IsSearchInRange result (length self.now) }
-        ensures place { result ≡ place_of p self.now }
+        ensures { (result ≡ place_of p self.now) × IsSearchInRange result (length self.now) }
     {
         self.rows.binary_search_by(|row| compare(posting(row), p))
     }
