@@ -21,7 +21,7 @@ pub extern "C" fn asdrifen_publish(
     ensures { LentPublishPromise head.old table.old changes.now guards.now
         strip.now «record».old result head.new table.new «record».new }
 {
-    answers::tell(entry::publish(head, table, changes, guards, strip, record))
+    entry::publish(head, table, changes, guards, strip, record).into()
 }
 
 // Sets the poison flag in place.

@@ -22,11 +22,9 @@ pub struct Done {
 fn posting_numbers(res: rules::Done) -> Done
     ensures { result ≡ record { head = res.head; told = told_of res.answer } }
 {
-    let head = res.head;
-    let answer = res.answer;
     Done {
-        head,
-        told: answers::tell(answer),
+        head: res.head,
+        told: res.answer.into(),
     }
 }
 
@@ -105,5 +103,5 @@ pub extern "C" fn asdrifen_remove_index_sources(
 pub extern "C" fn asdrifen_count(head: Head, table: &[u32], binding: u32, key: u32) -> Told
     ensures { CountPromise head table.now binding key result }
 {
-    answers::tell(publish::count(head, table, binding, key))
+    publish::count(head, table, binding, key).into()
 }

@@ -1,2 +1,2 @@
--- The laws of one step, by its byte.
-pub mod Bytes
+-- What steps that follow each other leave.
+pub mod Following

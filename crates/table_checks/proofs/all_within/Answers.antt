@@ -1,11 +1,10 @@
 -- The last posting decides, since the postings ascend.
 use mathlib.Core.Path.{sym}
-use borrow.Author.Rules.{rules}
-use Rattle.table_checks.proofs.Walks.{bindings_within, none_within}
+use Rattle.table_checks.proofs.Walks.{last_within, none_within}
 use Rattle.table_checks.proofs.all_within.Goals as goal
 
-pub returns-then-used-eq0 : goal.returns-then-used-eq0
-returns-then-used-eq0 c = sym (none_within _ _ _ c.if-used-eq0.true)
+pub returns-in-Some : goal.returns-in-Some
+returns-in-Some c = last_within _ _ _ _ c.requires c.in-Some.ensures.value c.posting.ensures
 
-pub returns : goal.returns
-returns c = bindings_within _ _ _ c.requires.0 (search rules) c.requires.1 _ c.read-last.ensures
+pub returns-in-None : goal.returns-in-None
+returns-in-None c = sym (none_within _ _ c.in-None.ensures.value)
