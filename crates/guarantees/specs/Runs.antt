@@ -94,7 +94,7 @@ pub record CallsWithheld (x : Index) (ms : List Made) : Type 0 where
       (m : Made) → Kept (end x ms) m →
       outcome m ≡ as_before (end x ms).head (end x ms).table m.call.record_list (Err Failure.Poisoned)
   -- so is every count
-  pub counts : (binding key : ℕ) (a : Result ℕ Failure) → CountPromise (end x ms).head (end x ms).table binding key a → a ≡ Failure.Poisoned
+  pub counts : (binding key : ℕ) (a : Result ℕ Failure) → CountPromise (end x ms).head (end x ms).table binding key a → a ≡ Err Failure.Poisoned
   -- and table and head stay fixed, whatever is called
   pub fixed : (more : List Made) → Run (end x ms) more → end (end x ms) more ≡ end x ms
 
