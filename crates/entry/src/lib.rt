@@ -17,7 +17,6 @@ pub fn poison_indexes(head: &mut Head)
 }
 
 // The pair (binding, key) is among the guards.
-#[tactic(auto, using(guarding::proofs::Asking::held_by_any))]
 pub fn held(guards: &[Guard], binding: u32, key: u32) -> bool
     ensures { HeldPromise guards.now binding key result }
 {
