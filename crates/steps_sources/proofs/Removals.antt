@@ -6,7 +6,7 @@ use mathlib.Core.Path.{◌≡◌, refl, sym, ap, ◌∙◌}
 use mathlib.Core.List.{List, [], ◌∷◌}
 use mathlib.Core.Bool.{Bool, true, false, cond}
 use lib.ListN.{length, drop, get_or}
-use lib.Seq.{get_or-drop, drop-drop}
+use lib.Seq.{get_or-drop}
 use Rattle.strips.specs.Strips.{byte_at}
 use Rattle.booleans.proofs.Tests.{impossible}
 use Rattle.rules.specs.declared.Change.{Change}
@@ -19,6 +19,7 @@ use Rattle.rules.specs.Publication.{Stage, removing}
 use Rattle.changes.proofs.Walk.{sources_left, sources_none}
 use Rattle.storage.specs.declared.Storage.{Storage}
 use Rattle.storage.specs.Leaving.{holding, Leaves, RemovalIn}
+use Rattle.storage.proofs.Following.{leaves_then}
 use Rattle.steps.specs.Leaving.{StageIn}
 
 -- a source removal that has come up to i
@@ -28,9 +29,6 @@ pub record Removing (cs : List Change) (clear : Result ℕ Failure) (before afte
   pub is :
       removing before.strip.now clear (sources cs) 0 (holding before) ≡
       removing before.strip.now clear (sources_from i (drop i cs)) read (holding after)
-
-pub remove_start : (cs : List Change) (clear : Result ℕ Failure) (s : Storage) → Removing cs clear s s 0
-remove_start cs clear s = record { read = 0; leaves = (refl, refl, refl, refl); is = refl }
 
 -- what the answer of a removal says of it
 failed_lem : (b : Bool) (x : Fault) → cond {A = Result Unit Fault} b (Err Fault.Store) (Ok tt) ≡ Err x → b ≡ true
@@ -77,8 +75,7 @@ module _ {cs : List Change} {clear : Result ℕ Failure} {before after : Storage
       module _ (next : Storage) (r : Result Unit Fault)
           (o : RemovalIn (removal (byte_at after.strip.now 0) p (holding after)) r after next) where
         step_leaves : Leaves before next (holding next) (z.read + 1)
-        step_leaves =
-            (o.1.0 ∙ z.leaves.0, o.1.1 ∙ z.leaves.1, refl, o.1.3 ∙ (ap (drop 1) z.leaves.3 ∙ drop-drop 1 z.read before.strip.now))
+        step_leaves = let l = leaves_then before after next z.read 1 z.leaves o.1 in (l.0, l.1, refl, l.3)
 
         stepped :
             removing before.strip.now clear (sources cs) 0 (holding before) ≡

@@ -2,7 +2,7 @@
 use Rattle.std.proofs.Common.{Option, Some, None, ℕ}
 use Prim.Native.Nat.{ℕ, ◌+◌, ◌<◌, ◌≤◌}
 use native.Mathlib.Omega.{arith}
-use mathlib.Core.Path.{◌≡◌, refl, sym, ap, ◌∙◌}
+use mathlib.Core.Path.{◌≡◌, sym, ap, ◌∙◌}
 use mathlib.Core.List.{List, ◌++◌}
 use lib.ListN.{length, take, drop, set, get_or, length-set, take-append-drop}
 use Rattle.lent_lists.specs.Written.{written}
@@ -19,9 +19,6 @@ pub record Recording (cs : List Change) (list₀ list : List ℕ) (place i : ℕ
   pub is :
       written (change_numbers (destinations_from 0 cs)) list₀ ≡
       take place list ++ written (change_numbers (destinations_from i (drop i cs))) (drop place list)
-
-pub record_start : (cs : List Change) (list : List ℕ) → Recording cs list list 0 0
-record_start cs list = record { low = omega arith; few = omega arith; len = refl; is = refl }
 
 module _ {cs : List Change} {list₀ list : List ℕ} {place i : ℕ} (z : Recording cs list₀ list place i) where
   pub record_end : length cs ≤ i → list ≡ written (change_numbers (destinations_from 0 cs)) list₀

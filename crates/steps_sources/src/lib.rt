@@ -19,6 +19,7 @@ pub fn write_record(list: Changes, record: &mut [u32])
     ensures { «record».new ≡ written (change_numbers (destinations (changes list.entry.numbers.now)))
         «record».old }
 {
+    // The place is counted apart, since a change with no destination takes none.
     let mut place: usize = 0;
     for number in 0..list.len() {
         let Some(_) = list.at(number).after else {

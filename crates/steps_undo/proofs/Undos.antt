@@ -21,7 +21,7 @@ use Rattle.rules.specs.Publication.{Undone, undoing}
 use Rattle.changes.proofs.Walk.{named_append}
 use Rattle.storage.specs.declared.Storage.{Storage}
 use Rattle.storage.specs.Leaving.{holding, Leaves}
-use Rattle.storage.proofs.Following.{leaves_all, leaves_then}
+use Rattle.storage.proofs.Following.{leaves_then}
 use Rattle.steps_undo.specs.Leaving.{UndoneIn, backward, as_recorded}
 
 undoing_step :
@@ -81,11 +81,6 @@ pub record Undoing (number : ℕ → ℕ) (cs : List Change) (n : ℕ) (before a
   pub is :
       undoing before.strip.now (backward number n cs) (Ok tt) 0 (holding before) ≡
       undoing before.strip.now (backward number i cs) v read (holding after)
-
--- where the run begins
-pub undo_start :
-    (number : ℕ → ℕ) (cs : List Change) (n : ℕ) (s : Storage) → Undoing number cs n s s (Ok tt) n
-undo_start number cs n s = record { read = 0; leaves = leaves_all s; is = refl }
 
 module _ {number : ℕ → ℕ} {cs : List Change} {n : ℕ} {before after : Storage} {v : Result Unit Failure} {i : ℕ}
     (z : Undoing number cs n before after v i) where

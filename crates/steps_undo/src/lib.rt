@@ -59,6 +59,7 @@ pub fn rollback(storage: &mut Storage, list: Changes, record: &[u32]) -> Result<
         result storage.old storage.new }
 {
     let mut so_far = Ok(());
+    // Over places: with `record.iter().rev()` the proof did not close, since its clauses don't say at which place an item stands.
     for place in (0..record.len()).rev() {
         let number = record[place];
         so_far = undo_change(storage, number, list.at(number as usize), so_far);

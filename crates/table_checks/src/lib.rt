@@ -16,6 +16,7 @@ pub const MOST_NUMBERS: usize = 12288;
 pub const MOST_BINDINGS: u32 = 64;
 
 // Each binding is below the count. In an ascending table the last has the greatest, so it alone is looked at.
+#[tactic(auto, using(crate::proofs::Walks::last_within, crate::proofs::Walks::none_within))]
 fn all_within(rows: &[[u32; 3]], bindings: u32) -> bool
     requires { ascending (map posting_of rows.now) ≡ true }
     ensures { result ≡ every (binding_below bindings) (map posting_of rows.now) }
