@@ -32,6 +32,21 @@ pub fn count_of(numbers: &[u32]) -> usize
     numbers.len() / 6
 }
 
+// The change of a list with a number.
+#[tactic(auto, using(crate::proofs::Walk::changes_length))]
+pub fn change_at(numbers: &[u32], number: usize) -> Change
+    requires { number < length (changes numbers.now) }
+    ensures { result ≡ get_or (changes numbers.now) number no_change }
+{
+    let first = number * 6;
+    Change {
+        binding: numbers[first],
+        row: numbers[first + 1],
+        before: key_of(numbers[first + 2], numbers[first + 3]),
+        after: key_of(numbers[first + 4], numbers[first + 5]),
+    }
+}
+
 impl<'a> Changes<'a> {
     // The changes of a list, unless they are over their limit. A list of any length is judged at once.
     pub fn few(numbers: &'a [u32]) -> Option<Changes<'a>>
@@ -51,17 +66,10 @@ impl<'a> Changes<'a> {
     }
 
     // The change with a number.
-    #[tactic(auto, using(crate::proofs::Walk::changes_length))]
     pub fn at(self, number: usize) -> Change
         requires { number < length (changes self.numbers.now) }
         ensures { result ≡ get_or (changes self.entry.numbers.now) number no_change }
     {
-        let first = number * 6;
-        Change {
-            binding: self.numbers[first],
-            row: self.numbers[first + 1],
-            before: key_of(self.numbers[first + 2], self.numbers[first + 3]),
-            after: key_of(self.numbers[first + 4], self.numbers[first + 5]),
-        }
+        change_at(self.numbers, number)
     }
 }

@@ -40,7 +40,7 @@ fn first_unheld(poisoned: u32, guards: &[Guard], list: &[u32]) -> usize
     };
     let places = list.len() * 2;
     for place in 0..places {
-        if !is_held(guards, guarding::wanted_at(list, place)) {
+        if !is_held(guards, guarding::wanted_at(list.numbers, place)) {
             return place;
         }
     }

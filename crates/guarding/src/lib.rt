@@ -8,7 +8,7 @@ ghost use Rattle.guarding.specs.Asking.{wanted_of, wanted_at, keys_asked};
 ghost use Rattle.rules.specs.Calls.{outcome_of};
 ghost use Rattle.guarding.specs.InPlace.{value_of, ByValuePromise};
 
-use changes::Changes;
+use changes::{change_at, Changes};
 use checks::MOST_GUARDS;
 use rules::{Answer, Done, Guard, Head};
 
@@ -41,11 +41,11 @@ fn as_wanted(binding: u32, key: Option<u32>) -> Option<Guard>
 }
 
 // The guard that is asked for at a place, two places to a change: its before, its after.
-pub fn wanted_at(list: Changes, place: usize) -> Option<Guard>
-    requires { place < length (changes list.numbers.now) * 2 }
-    ensures { result ≡ wanted_at (changes list.entry.numbers.now) place }
+pub fn wanted_at(list: &[u32], place: usize) -> Option<Guard>
+    requires { place < length (changes list.now) * 2 }
+    ensures { result ≡ wanted_at (changes list.now) place }
 {
-    let change = list.at(place / 2);
+    let change = change_at(list, place / 2);
     let key = if place % 2 == 0 {
         change.before
     } else {

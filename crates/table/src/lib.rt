@@ -56,16 +56,6 @@ impl<'a> Postings<'a> {
     {
         self.find(p).is_ok()
     }
-
-    // How many postings have this binding and key.
-    pub fn count(&self, binding: u32, key: u32) -> usize
-        ensures { result ≡ counted binding key self.now }
-    {
-        self.rows
-            .iter()
-            .filter(|row| binding == row[0] && key == row[1])
-            .count()
-    }
 }
 
 // The posting at its place, those after it one further, and the new used. A table that has it stays.
@@ -104,4 +94,15 @@ pub fn remove(numbers: &mut [u32], used: usize, p: Posting) -> usize
             used - 1
         }
     }
+}
+
+// How many postings have this binding and key.
+pub fn count_postings(numbers: &[u32], used: usize, binding: u32, key: u32) -> usize
+    requires { used * 3 ≤ length numbers.now }
+    ensures { result ≡ counted binding key (postings used numbers.now) }
+{
+    rows(numbers, used)
+        .iter()
+        .filter(|row| binding == row[0] && key == row[1])
+        .count()
 }

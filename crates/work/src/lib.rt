@@ -17,7 +17,7 @@ use changes::Changes;
 use rules::{Answer, Done, Head};
 use steps_sources::{remove_sources, write_record};
 use storage::Storage;
-use table::Postings;
+use table::count_postings;
 
 // The answer that was reached, and the head beside the table as it now is.
 fn done(head: Head, used: usize, answer: Answer) -> Done
@@ -138,5 +138,5 @@ pub fn count(head: Head, table: &[u32], binding: u32, key: u32) -> u32
     requires { well_formed head table.now ≡ true }
     ensures { result ≡ counted binding key (postings head.used table.now) }
 {
-    Postings::new(table, head.used as usize).count(binding, key) as u32
+    count_postings(table, head.used as usize, binding, key) as u32
 }
