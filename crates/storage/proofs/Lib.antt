@@ -1,2 +1,3 @@
--- What steps that follow each other leave.
+-- What a step by its byte leaves, and steps that follow each other.
+pub mod Bytes
 pub mod Following

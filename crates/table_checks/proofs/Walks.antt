@@ -7,6 +7,7 @@ use mathlib.Core.List.{List, [], ◌∷◌, map}
 use mathlib.Core.Bool.{Bool, true, false, ◌&&◌, and-true, and-false, and_assoc}
 use mathlib.Mathlib.Data.Bool.Basic.{and_elim_left, and_elim_right, and_intro}
 use lib.ListN.{length, get_or, drop}
+use lib.Seq.{get_or-take, length-take-le}
 use Rattle.std.proofs.lemmas.List.{length-map}
 use lib.Dec.{eqb, ltb, leb}
 use lib.Bits.{bit_or, or_add_and, and_le_l, and_le_r}
@@ -18,7 +19,7 @@ use Rattle.std.specs.declared.cmp.Ordering.{Ordering}
 use Rattle.rules.specs.Postings.{every, ranked, compared, is_before, chain, ascending, binding_below}
 use Rattle.rules.specs.declared.Head.{Head}
 use Rattle.rules.specs.Limits.{most_numbers, most_bindings}
-use Rattle.rules.specs.Table.{postings, all_of, limits_hold, well_formed}
+use Rattle.rules.specs.Table.{cells, postings, all_of, limits_hold, well_formed}
 use Rattle.booleans.proofs.Tests.{impossible, Tri, less, equal, more, tri, equal_tests}
 use Rattle.laws.proofs.Ranks.{ranked_more}
 use Rattle.laws.proofs.Sorted.{chain_before, chain_rest}
@@ -188,3 +189,28 @@ tests head table =
     && (leb head.used (length table / 3)
     && (ascending (postings head.used table) && (every (binding_below head.bindings) (postings head.used table) && b)))))
     (and-true (every (eqb 0) (drop (head.used * 3) table)))
+
+cells_long : (t : List ℕ) → length (cells t) ≡ length t / 3
+unfolding cells
+cells_long [] = refl
+cells_long (a ∷ []) = refl
+cells_long (a ∷ b ∷ []) = refl
+cells_long (a ∷ b ∷ c ∷ l) = let ih = cells_long l in omega arith
+
+last_decides :
+    (bindings used : ℕ) (ps : List Posting) (last : Posting) → 0 < used → ascending ps ≡ true → length ps ≡ used →
+    last ≡ get_or ps (used - 1) blank → ltb last.binding bindings ≡ every (binding_below bindings) ps
+unfolding ascending
+last_decides bindings used [] last h s l f = absurd (omega arith)
+last_decides bindings used (p ∷ ps) last h s l f =
+    ap (λ (q : Posting). ltb q.binding bindings) f ∙ sym (within_last bindings p ps (used - 1) s (omega arith))
+
+-- so of a table in use its last posting alone is looked at
+pub bindings_within :
+    (t : List ℕ) (used bindings : ℕ) → used * 3 ≤ length t → 0 < used → ascending (postings used t) ≡ true →
+    (last : Posting) → last ≡ get_or (cells t) (used - 1) blank →
+    ltb last.binding bindings ≡ every (binding_below bindings) (postings used t)
+bindings_within t used bindings room h sorted last e =
+    let long = cells_long t in
+    last_decides bindings used (postings used t) last h sorted (length-take-le used (cells t) (omega arith))
+    (e ∙ sym (get_or-take used (cells t) (used - 1) blank (omega arith)))
