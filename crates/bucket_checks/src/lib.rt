@@ -35,7 +35,7 @@ fn short_scratch(count: u32, scratch: &[u32]) -> bool
     scratch.len() < bitmaps::numbers_for(count)
 }
 
-// Refuses where a test applies.
+// Refuses where a test applies. The lanes have the like for their own failures: one for both would be a crate for one line.
 fn refuse(applies: bool, failure: Failure) -> Result<(), Failure>
     ensures { result ≡ refuse applies failure (Ok tt) }
 {
@@ -67,8 +67,7 @@ fn check(short: bool, input: &[u32], count: u32) -> Result<(), Failure>
 {
     refuse(over_limits(input, count), Failure::Limits)?;
     refuse(short, Failure::Room)?;
-    range_check(count, input)?;
-    Ok(())
+    range_check(count, input)
 }
 
 // The checks of the sorting engine.

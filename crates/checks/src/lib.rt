@@ -122,7 +122,7 @@ fn is_bound(bindings: u32, unheld: usize, number: usize, change: Change) -> bool
 }
 
 // 6 GUARD where the first change with a key that is not held is known: that one, or one before it whose binding is not below
-// the count.
+// the count. Where none is, the number is that of no change: the words of `bindings_from`, and of `ByValuePromise` above it.
 #[tactic(auto, using(crate::proofs::Guarding::bindings_left, crate::proofs::Guarding::bindings_none))]
 pub fn check_bindings(bindings: u32, list: Changes, unheld: usize) -> Result<(), Failure>
     ensures { result ≡ bindings_from bindings unheld 0 (changes list.entry.numbers.now) }

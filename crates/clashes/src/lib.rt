@@ -28,30 +28,24 @@ fn one_destination(earlier: Change, later: Change) -> bool
     later.after.is_some_and(|key| goes_to(earlier, later.posting(key)))
 }
 
-// The first change before a later one that has its destination.
-#[tactic(auto, using(crate::proofs::Pairs::seek_left, crate::proofs::Pairs::seek_none))]
-fn check_before(list: Changes, later: usize) -> Result<(), Failure>
-    requires { later < length (changes list.numbers.now) }
-    ensures { result ≡ seek (changes list.entry.numbers.now) later 0 }
-{
-    let change = list.at(later);
-    for earlier in 0..later {
-        if one_destination(list.at(earlier), change) {
-            return Err(Failure::Twice(earlier as u32, later as u32));
-        }
-    }
-    Ok(())
-}
-
 // 7 TWICE: the first two equal destinations in order of the later, then of the earlier.
-#[tactic(auto, using(crate::proofs::Pairs::pairs_all, crate::proofs::Pairs::pairs_left, crate::proofs::Pairs::pairs_none))]
+#[tactic(auto, using(crate::proofs::Pairs::pairs_all, crate::proofs::Pairs::pairs_left, crate::proofs::Pairs::pairs_none, crate::proofs::Pairs::seek_left, crate::proofs::Pairs::seek_none))]
 pub fn check_twice(list: Changes) -> Result<(), Failure>
     ensures { result ≡ twice_check (changes list.entry.numbers.now) }
 {
-    for later in 0..list.len() {
-        check_before(list, later)?;
+    let mut pair = None;
+    'pairs: for later in 0..list.len() {
+        for earlier in 0..later {
+            if one_destination(list.at(earlier), list.at(later)) {
+                pair = Some((earlier, later));
+                break 'pairs;
+            }
+        }
     }
-    Ok(())
+    match pair {
+        Some((earlier, later)) => Err(Failure::Twice(earlier as u32, later as u32)),
+        None => Ok(()),
+    }
 }
 
 // The destination of a change stands in the table.

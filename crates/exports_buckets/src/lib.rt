@@ -9,7 +9,7 @@ ghost use Rattle.exports_buckets.specs.Promises.{three_numbers, SortPromise, Bit
 
 use rules::Told;
 
-// The numbers of a bucket call's answer. No such answer names a second number.
+// The numbers of a bucket call's answer. No such answer names a second number. A function and no `From`: both types are of crates below.
 fn bucket_numbers(answer: bucket_rules::Answer) -> Told
     ensures { result ≡ three_numbers (told_of answer) }
 {

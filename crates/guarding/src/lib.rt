@@ -12,7 +12,8 @@ use changes::{change_at, Changes};
 use checks::MOST_GUARDS;
 use rules::{Answer, Done, Guard, Head};
 
-// What a publish answers, the head that it leaves but for the poison flag, which is as it was lent, and whether that is to be set.
+// What a publish answers, the head that it leaves but for the poison flag, which is as it was lent, and whether that is to be set: told
+// apart for `poison_indexes`, which sets it in place, as `ByValuePromise` says.
 #[derive(Clone, Copy)]
 pub struct Published {
     pub answer: Answer,
@@ -69,10 +70,7 @@ fn publish_beside(
     let paired = guards <= MOST_GUARDS;
     match refusals::of_publish_beside(head, table, list, paired, unheld / 2, strip, record) {
         Ok(list) => publish_core::publish(head, table, list, strip, record),
-        Err(why) => Done {
-            head,
-            answer: Err(why),
-        },
+        Err(why) => Done::refused(head, why),
     }
 }
 
@@ -94,9 +92,8 @@ pub fn publish_by_value(
     Published {
         answer: done.answer,
         head: Head {
-            bindings: after.bindings,
-            used: after.used,
             poisoned: head.poisoned,
+            ..after
         },
         poisons: after.poisoned == 1,
     }

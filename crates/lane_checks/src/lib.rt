@@ -25,7 +25,7 @@ fn bad_view(view: View) -> bool
         || masks::lanes_below(view.attached, view.height) != view.attached
 }
 
-// The failure, where its test applies.
+// The failure, where its test applies. The buckets have the like for their own failures: one for both would be a crate for one line.
 fn refuse(applies: bool, failure: Failure) -> Result<(), Failure>
     ensures { result ≡ refuse applies failure (Ok tt) }
 {

@@ -68,37 +68,33 @@ ends :
     e ≡ record { answer = answer; attached = now.attached; window = now.window; read = read } → Ends start now answer e
 ends start now answer e read v h = rw h (refl, v)
 
--- this round comes next
-pub record Rounding (strip : List ℕ) (lent : ℕ) (start : View) (rest : List ℕ) (now : View) (next : ℕ) : Type 0 where
-  pub some : 0 < next
-  pub low : next ≤ lent + 1
+-- so many rounds are left
+pub record Rounding (strip : List ℕ) (lent : ℕ) (start : View) (rest : List ℕ) (now : View) (left : ℕ) : Type 0 where
+  pub low : left ≤ lent
   pub read : ℕ
-  pub left : rest ≡ drop read strip
+  pub unread : rest ≡ drop read strip
   pub same : SameElse start now
-  pub is :
-      rounds_of strip lent start ≡ rounds strip start.height (lent + 1 - next) (next - 1) now.attached now.window read
+  pub is : rounds_of strip lent start ≡ rounds strip start.height left (lent - left) now.attached now.window read
 
-pub rounding_start : (strip : List ℕ) (lent : ℕ) (start : View) → Rounding strip lent start strip start 1
+pub rounding_start : (strip : List ℕ) (lent : ℕ) (start : View) → Rounding strip lent start strip start lent
 rounding_start strip lent start =
-    let all : lent + 1 - 1 ≡ lent = omega arith in
+    let none : lent - lent ≡ 0 = omega arith in
     record {
-      some = omega arith;
       low = omega arith;
       read = 0;
-      left = refl;
+      unread = refl;
       same = refl;
-      is = ap (λ (n : ℕ). rounds strip start.height n 0 start.attached start.window 0) (sym all);
+      is = ap (λ (n : ℕ). rounds strip start.height lent n start.attached start.window 0) (sym none);
     }
 
-module _ {strip : List ℕ} {lent : ℕ} {start : View} {rest : List ℕ} {now : View} {next : ℕ}
-    (z : Rounding strip lent start rest now next) where
+module _ {strip : List ℕ} {lent : ℕ} {start : View} {rest : List ℕ} {now : View} {left : ℕ}
+    (z : Rounding strip lent start rest now left) where
   -- the rounds lent are used up
-  pub rounding_end : next ≡ lent + 1 → Ends start now (Err (Failure.Budget lent)) (rounds_of strip lent start)
+  pub rounding_end : left ≡ 0 → Ends start now (Err (Failure.Budget lent)) (rounds_of strip lent start)
   unfolding rounds
   rounding_end e =
-      let none : lent + 1 - next ≡ 0 = omega arith in
-      let all : next - 1 ≡ lent = omega arith in
-      ends start now (Err (Failure.Budget lent)) _ z.read z.same (z.is ∙ rw (none, all))
+      let all : lent - left ≡ lent = omega arith in
+      ends start now (Err (Failure.Budget lent)) _ z.read z.same (z.is ∙ rw (all, e))
 
   -- the round from here, as one behind all that was read
   here : round strip start.height now.attached now.window z.read ≡ round_ahead z.read (round_from now rest 0)
@@ -106,27 +102,31 @@ module _ {strip : List ℕ} {lent : ℕ} {start : View} {rest : List ℕ} {now :
       let lanes : now.height ≡ start.height = ap (λ (v : View). v.height) z.same in
       let none : z.read + 0 ≡ z.read = omega arith in
       let k = round_from_ahead strip z.read start.height now.attached now.window 0 in
-      rw (lanes, z.left) (rw none at k)
+      rw (lanes, z.unread) (rw none at k)
 
   -- so many bytes are read behind it
   abbrev read : ℕ
   read = z.read + (round_from now rest 0).read
 
-  module _ (w : View) (m : List ℕ) (said : Result Bool ErrorByte) (h : next ≤ lent)
+  -- with one round fewer left, so many are made
+  abbrev made : ℕ
+  made = lent - (left - 1)
+
+  module _ (w : View) (m : List ℕ) (said : Result Bool ErrorByte) (h : 0 < left)
       (e : RoundEnds rest now m w said (round_from now rest 0)) where
     goes :
         rounds_of strip lent start ≡ by_said said
-        (record { answer = Ok next; attached = w.attached; window = w.window; read = read })
-        (rounds strip start.height (lent - next) next w.attached w.window read)
-        (record { answer = Err (Failure.Offset next); attached = w.attached; window = w.window; read = read })
+        (record { answer = Ok made; attached = w.attached; window = w.window; read = read })
+        (rounds strip start.height (left - 1) made w.attached w.window read)
+        (record { answer = Err (Failure.Offset made); attached = w.attached; window = w.window; read = read })
     unfolding rounds
     goes =
-        let some = z.some in
-        let left : lent + 1 - next ≡ suc (lent - next) = omega arith in
-        let made : next - 1 + 1 ≡ next = omega arith in
+        let low = z.low in
+        let one : left ≡ suc (left - 1) = omega arith in
+        let next : lent - left + 1 ≡ lent - (left - 1) = omega arith in
         z.is
-        ∙ (ap (λ (n : ℕ). rounds strip start.height n (next - 1) now.attached now.window z.read) left
-        ∙ rw (made, here, e.0, e.1))
+        ∙ (ap (λ (n : ℕ). rounds strip start.height n (lent - left) now.attached now.window z.read) one
+        ∙ rw (next, here, e.0, e.1))
 
     -- nothing but the masks has changed
     same : SameElse start w
@@ -135,24 +135,21 @@ module _ {strip : List ℕ} {lent : ℕ} {start : View} {rest : List ℕ} {now :
         rw e.1 (ap (λ (v : View). view_with v r.attached r.window v.retired) z.same)
 
     -- a round that says yes, one that fails, and one that says no
-    pub rounding_yes : said ≡ Ok true → Ends start w (Ok next) (rounds_of strip lent start)
-    rounding_yes s = ends start w (Ok next) _ read same (goes ∙ rw s)
+    pub rounding_yes : said ≡ Ok true → Ends start w (Ok made) (rounds_of strip lent start)
+    rounding_yes s = ends start w (Ok made) _ read same (goes ∙ rw s)
 
-    pub rounding_error : said ≡ error_met → Ends start w (Err (Failure.Offset next)) (rounds_of strip lent start)
-    rounding_error s = ends start w (Err (Failure.Offset next)) _ read same (goes ∙ rw s)
+    pub rounding_error : said ≡ error_met → Ends start w (Err (Failure.Offset made)) (rounds_of strip lent start)
+    rounding_error s = ends start w (Err (Failure.Offset made)) _ read same (goes ∙ rw s)
 
-    pub rounding_no : said ≡ Ok false → Rounding strip lent start m w (next + 1)
+    pub rounding_no : said ≡ Ok false → Rounding strip lent start m w (left - 1)
     rounding_no s =
-        let some = z.some in
-        let left : lent + 1 - (next + 1) ≡ lent - next = omega arith in
-        let made : next + 1 - 1 ≡ next = omega arith in
+        let low = z.low in
         record {
-          some = omega arith;
           low = omega arith;
           read = read;
-          left = rw (e.2, z.left) (drop-drop (round_from now (drop z.read strip) 0).read z.read strip);
+          unread = rw (e.2, z.unread) (drop-drop (round_from now (drop z.read strip) 0).read z.read strip);
           same = same;
-          is = goes ∙ rw (s, left, made);
+          is = goes ∙ rw s;
         }
 
 -- what follows a cached pass: it ends with a yes or an error, and after a no come the rounds

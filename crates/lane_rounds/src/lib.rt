@@ -11,7 +11,8 @@ ghost use Rattle.lane_laws.specs.Ends.{detach_work};
 
 use lane_rules::{Answer, ErrorByte, Failure, Said, View};
 use masks::clear_lowest;
-use passes::{cached_pass, next_byte, refreshed_pass};
+use passes::{cached_pass, refreshed_pass};
+use strips::next_byte;
 
 // Byte 0 sets the window to the attached lanes; byte 1 first clears the lowest of them; byte 2 is an error, all unchanged.
 #[tactic(auto, unfolding(lane_rules::specs::Steps::refreshed))]
@@ -40,16 +41,17 @@ fn round_of(strip: &mut &[u8], view: &mut View) -> Said
     refreshed_pass(strip, view)
 }
 
-// Rounds until a yes, from where another part of the call left off, at most as many as are lent. Those made are told, each refresh
-// begun counting, a failed one too.
+// Rounds until a yes, from where another part of the call left off, at most as many as are lent. The rounds left fall; those made are
+// told, each refresh begun counting, a failed one too.
 fn rounds_of(mut strip: &[u8], lent: u32, view: &mut View) -> Answer
     ensures answer { let v = view.old in result ≡ (rounds strip.now v.height lent 0 v.attached v.window 0).answer }
     ensures view { let v = view.old in let e = rounds strip.now v.height lent 0 v.attached v.window 0 in
         view.new ≡ view_with v e.attached e.window v.retired }
 {
-    for round in 1..=lent {
-        if round_of(&mut strip, view).map_err(|_| Failure::Offset(round))? {
-            return Ok(round);
+    for left in (0..lent).rev() {
+        let made = lent - left;
+        if round_of(&mut strip, view).map_err(|_| Failure::Offset(made))? {
+            return Ok(made);
         }
     }
     Err(Failure::Budget(lent))

@@ -60,7 +60,7 @@ impl From<ErrorByte> for Failure {
 // detach, which has retired the node, the rounds made.
 pub type Answer = Result<u32, Failure>;
 
-// An answer as two numbers, as it crosses to C: the answer's own, and its value.
+// An answer as two numbers: the answer's own, and its value.
 #[repr(C)]
 #[derive(Clone, Copy)]
 pub struct Told {

@@ -20,7 +20,8 @@ fn cached_answer(mut strip: &[u8], view: &mut View) -> Answer
     Ok(u32::from(cached_pass(&mut strip, view)?))
 }
 
-// The refreshed pass, unless a check refuses it. One function for both passes, which is given the checks and the pass, is no plainer.
+// The refreshed pass, unless a check refuses it. One function for both passes is no plainer: it would be given the checks and the pass as
+// `impl Fn`, and promise what these two promise of `cached_of` and `refreshed_of` by what the functions given promise.
 fn refreshed_answer(mut strip: &[u8], view: &mut View) -> Answer
     ensures { record { view = view.new; answer = result } ≡ refreshed_of view.old strip.now }
 {

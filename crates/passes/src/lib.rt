@@ -3,21 +3,13 @@
 #![tactic(auto)]
 
 ghost use Rattle.std.specs.Prelude.{◌≡◌, drop};
-ghost use Rattle.strips.specs.Strips.{byte_at};
 ghost use Rattle.lane_rules.specs.Steps.{compared};
 ghost use Rattle.lane_rules.specs.Calls.{view_with};
 ghost use Rattle.lane_laws.specs.Ends.{cached_work, refreshed_work};
 
 use lane_rules::{ErrorByte, Said, View};
 use masks::{clear_lane, lane_in};
-
-// The next byte of the strip, which is then read; past the end reads 0.
-pub fn next_byte(strip: &mut &[u8]) -> u8
-    ensures byte { result ≡ byte_at strip.old.now 0 }
-    ensures strip { strip.new.now ≡ drop 1 strip.old.now }
-{
-    strip.split_off_first().copied().unwrap_or(0)
-}
+use strips::next_byte;
 
 // Byte 0 clears the lane and says yes if it is attached, else no; byte 1 says no; byte 2 is an error.
 #[tactic(auto, unfolding(lane_rules::specs::Steps::compared))]

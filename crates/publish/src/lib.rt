@@ -9,16 +9,6 @@ ghost use Rattle.publish.specs.Promises.{PreparePromise, RollbackPromise, Remova
 
 use rules::{Answer, Done, Failure, Head};
 
-// What a refused call returns: the head as it was.
-fn refused(head: Head, why: Failure) -> Done
-    ensures { result ≡ record { head = head; answer = Err why } }
-{
-    Done {
-        head,
-        answer: Err(why),
-    }
-}
-
 // Puts the destinations of a change list into the table, all of them or none, and writes their change numbers into the record
 // list. An accepted answer names how many they are.
 pub fn prepare_index_destinations(
@@ -35,7 +25,7 @@ pub fn prepare_index_destinations(
 {
     match refusals::of_prepare(head, table, changes, guards, strip, record) {
         Ok(list) => work::prepare(head, table, list, strip, record),
-        Err(why) => refused(head, why),
+        Err(why) => Done::refused(head, why),
     }
 }
 
@@ -54,7 +44,7 @@ pub fn rollback_index_destinations(
 {
     match refusals::of_rollback(head, table, changes, guards, strip, record) {
         Ok(list) => work::rollback(head, table, list, strip, record),
-        Err(why) => refused(head, why),
+        Err(why) => Done::refused(head, why),
     }
 }
 
@@ -71,7 +61,7 @@ pub fn remove_index_sources(
 {
     match refusals::of_removal(head, table, changes, guards, strip) {
         Ok(list) => work::remove(head, table, list, strip),
-        Err(why) => refused(head, why),
+        Err(why) => Done::refused(head, why),
     }
 }
 
@@ -90,7 +80,7 @@ pub fn publish(
 {
     match refusals::of_publish(head, table, changes, guards, strip, record) {
         Ok(list) => publish_core::publish(head, table, list, strip, record),
-        Err(why) => refused(head, why),
+        Err(why) => Done::refused(head, why),
     }
 }
 

@@ -25,9 +25,6 @@ pub fn publish(
 {
     match refusals::clashing(head, table, list) {
         Ok(()) => work::publish(head, table, list, strip, record),
-        Err(why) => Done {
-            head,
-            answer: Err(why),
-        },
+        Err(why) => Done::refused(head, why),
     }
 }

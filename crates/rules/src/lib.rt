@@ -3,7 +3,7 @@
 // Checks, Calls, and then Letters and Examples, where they are tried.
 #![tactic(auto)]
 
-ghost use Rattle.std.specs.Prelude.{◌≡◌};
+ghost use Rattle.std.specs.Prelude.{◌≡◌, Err};
 
 // A row that stands in the index `binding` under `key`. The table's order is that of the fields: binding, key, row.
 #[derive(Clone, Copy, PartialEq, Eq, PartialOrd, Ord)]
@@ -110,6 +110,18 @@ pub struct Told {
 pub struct Done {
     pub head: Head,
     pub answer: Answer,
+}
+
+impl Done {
+    // What a refused call returns: the head as it was.
+    pub fn refused(head: Head, why: Failure) -> Done
+        ensures { result ≡ record { head = head; answer = Err why } }
+    {
+        Done {
+            head,
+            answer: Err(why),
+        }
+    }
 }
 
 impl Told {

@@ -19,7 +19,8 @@ pub fn write_record(list: Changes, record: &mut [u32])
     ensures { «record».new ≡ written (change_numbers (destinations (changes list.entry.numbers.now)))
         «record».old }
 {
-    // The place is counted apart, since a change with no destination takes none.
+    // The place is counted apart, since a change with no destination takes none, and the number of each is what is written: a chain of
+    // `filter` and `zip` would say the same in more words.
     let mut place: usize = 0;
     for number in 0..list.len() {
         let Some(_) = list.at(number).after else {
@@ -30,7 +31,8 @@ pub fn write_record(list: Changes, record: &mut [u32])
     }
 }
 
-// Source removal: up the list over the befores, to the first failure. The answer is this one where none failed.
+// Source removal: up the list over the befores, to the first failure. The answer is this one where none failed: `removing` of the rules
+// takes it, since publish goes on from what prepare answered.
 pub fn remove_sources(storage: &mut Storage, list: Changes, clear: Answer) -> Answer
     ensures { StageIn
         (removing storage.old.strip.now clear (sources (changes list.entry.numbers.now)) 0 (holding storage.old))
@@ -41,9 +43,8 @@ pub fn remove_sources(storage: &mut Storage, list: Changes, clear: Answer) -> An
         let Some(key) = change.before else {
             continue;
         };
-        match storage.remove(change.posting(key)) {
-            Ok(()) => {}
-            Err(_) => return Err(Failure::Source(number as u32)),
+        if storage.remove(change.posting(key)).is_err() {
+            return Err(Failure::Source(number as u32));
         }
     }
     clear

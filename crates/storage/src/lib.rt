@@ -2,13 +2,13 @@
 // in order (Ordered), which the checks of a whole call have tested.
 #![tactic(auto)]
 
-ghost use Rattle.std.specs.Prelude.{◌≡◌, drop};
 ghost use Rattle.strips.specs.Strips.{byte_at};
 ghost use Rattle.rules.specs.Table.{capacity};
 ghost use Rattle.rules.specs.Storage.{insertion, removal};
 ghost use Rattle.table.specs.Holding.{Ordered};
 
 use rules::{Fault, Posting};
+use strips::next_byte;
 use table::{insert, remove};
 
 // A lent table in order whose storage behaves by a strip: the list, how many postings it has, and the bytes that are left. Each step
@@ -21,17 +21,6 @@ pub struct Storage<'a, 's> {
     ghost ordered: { Ordered numbers.now used },
 }
 
-// The next byte, and those that are left after it.
-fn next_byte(strip: &[u8]) -> (u8, &[u8])
-    ensures byte { result.0 ≡ byte_at strip.now 0 }
-    ensures left { result.1.now ≡ drop 1 strip.now }
-{
-    match strip.split_first() {
-        Some((byte, left)) => (*byte, left),
-        None => (0, strip),
-    }
-}
-
 impl<'a, 's> Storage<'a, 's> {
     ghost use Rattle.storage.specs.Leaving.{holding, InsertionIn, RemovalIn};
 
@@ -41,8 +30,7 @@ impl<'a, 's> Storage<'a, 's> {
         ensures { InsertionIn (insertion (byte_at self.old.strip.now 0) (capacity self.old.numbers.now) p (holding self.old))
             result self.old self.new }
     {
-        let (byte, left) = next_byte(self.strip);
-        self.strip = left;
+        let byte = next_byte(&mut self.strip);
         if byte != 0 {
             return Err(Fault::Store);
         }
@@ -58,8 +46,7 @@ impl<'a, 's> Storage<'a, 's> {
     pub fn remove(&mut self, p: Posting) -> Result<(), Fault>
         ensures { RemovalIn (removal (byte_at self.old.strip.now 0) p (holding self.old)) result self.old self.new }
     {
-        let (byte, left) = next_byte(self.strip);
-        self.strip = left;
+        let byte = next_byte(&mut self.strip);
         if byte != 1 {
             self.used = remove(self.numbers, self.used, p);
         }

@@ -2,7 +2,7 @@
 // `requires`.
 #![tactic(auto)]
 
-ghost use Rattle.std.specs.Prelude.{◌≡◌, leb};
+ghost use Rattle.std.specs.Prelude.{◌≡◌, leb, drop};
 ghost use Rattle.std.specs.List.{list_all};
 ghost use Rattle.strips.specs.Strips.{proper_strip, byte_at};
 
@@ -24,9 +24,11 @@ pub fn proper_strip(strip: &[u8]) -> bool
     strip.len() <= MOST_BYTES && proper_bytes(strip)
 }
 
-// The next byte where so many are read; past the end reads 0.
-pub fn byte_at(strip: &[u8], read: usize) -> u8
-    ensures { result ≡ byte_at strip.now read }
+// The next byte of what is left of a strip, which is then read; past the end reads 0. What a byte does to a step is said in the rules
+// of postings (`insertion`, `removal`) and of lanes (`compared`, `refreshed`), of the bytes themselves, so no type stands for them.
+pub fn next_byte(strip: &mut &[u8]) -> u8
+    ensures byte { result ≡ byte_at strip.old.now 0 }
+    ensures strip { strip.new.now ≡ drop 1 strip.old.now }
 {
-    strip.get(read).copied().unwrap_or(0)
+    strip.split_off_first().copied().unwrap_or(0)
 }

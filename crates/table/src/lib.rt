@@ -58,7 +58,9 @@ impl<'a> Postings<'a> {
     }
 }
 
-// The posting at its place, those after it one further, and the new used. A table that has it stays.
+// The posting at its place, those after it one further, and the new used. A table that has it stays. This and `remove` go by the lent
+// list and how many it has: as methods of a struct inside `Storage` they were tried, and what a `&mut` two structs deep leaves does not
+// come back to the lent list in the proof.
 pub fn insert(numbers: &mut [u32], used: usize, p: Posting) -> usize
     requires { Ordered numbers.old used × (used < capacity numbers.old) }
     ensures { Carries numbers.new result (inserted p (postings used numbers.old)) }

@@ -21,10 +21,8 @@ fn all_within(rows: &[[u32; 3]], bindings: u32) -> bool
     requires { ascending (map posting_of rows.now) ≡ true }
     ensures { result ≡ every (binding_below bindings) (map posting_of rows.now) }
 {
-    match rows.last() {
-        Some(last) => posting(last).binding < bindings,
-        None => true,
-    }
+    rows.last()
+        .is_none_or(|last| posting(last).binding < bindings)
 }
 
 // The postings are strictly ascending.

@@ -26,15 +26,16 @@ fn done(head: Head, used: usize, answer: Answer) -> Done
 {
     Done {
         head: Head {
-            bindings: head.bindings,
             used: used as u32,
             poisoned: flag_after(answer, head.poisoned),
+            ..head
         },
         answer,
     }
 }
 
-// The lent table of a well-formed head, with the strip by which its storage behaves.
+// The lent table of a well-formed head, with the strip by which its storage behaves. Head and table come from C apart, and what was
+// checked of them is asked for in each call and used here once: a type that has it would be made by the checks only to be taken apart.
 fn stored<'a, 's>(head: Head, table: &'a mut [u32], strip: &'s [u8]) -> Storage<'a, 's>
     requires { well_formed head table.old ≡ true }
     ensures same_reference { result.numbers.ghost_name ≡ table.entry.ghost_name }

@@ -1,6 +1,6 @@
--- A turn for each round.
+-- A turn for each round, with those left counted down.
 use Rattle.lane_rounds.proofs.Rounding.{Rounding}
 use Rattle.lane_rounds.proofs.rounds_of.Given as goal
 
-abbrev pub invariant-loop-round : goal.invariant-loop-round
-invariant-loop-round l = Rounding l.initial.strip l.lent l.initial.view l.strip l.view l.round-counter
+abbrev pub invariant-loop-left : goal.invariant-loop-left
+invariant-loop-left l = Rounding l.initial.strip l.lent l.initial.view l.strip l.view l.left
