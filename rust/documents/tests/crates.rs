@@ -18,8 +18,8 @@ const DELIVERED: [(&str, usize); 9] = [
     ("exports", 14),
 ];
 
-/// Of `booleans` README speaks below its table; `io` is the toolchain's.
-const NOT_IN_THE_COLUMN: [&str; 2] = ["booleans", "io"];
+/// Of `booleans` README speaks below its table.
+const NOT_IN_THE_COLUMN: [&str; 1] = ["booleans"];
 
 /// Of each public function what stands before its body.
 fn public_signatures(code: &str) -> Vec<String> {
