@@ -25,7 +25,9 @@ fn goes_to(change: Change, p: Posting) -> bool
 fn one_destination(earlier: Change, later: Change) -> bool
     ensures { result ≡ one_destination earlier later }
 {
-    later.after.is_some_and(|key| goes_to(earlier, later.posting(key)))
+    later
+        .after
+        .is_some_and(|key| goes_to(earlier, later.posting(key)))
 }
 
 // 7 TWICE: the first two equal destinations in order of the later, then of the earlier.

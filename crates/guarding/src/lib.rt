@@ -8,7 +8,7 @@ ghost use Rattle.guarding.specs.Asking.{wanted_of, wanted_at, keys_asked};
 ghost use Rattle.rules.specs.Calls.{outcome_of};
 ghost use Rattle.guarding.specs.InPlace.{value_of, ByValuePromise};
 
-use changes::{change_at, Changes};
+use changes::{Changes, change_at};
 use checks::MOST_GUARDS;
 use rules::{Answer, Done, Guard, Head};
 

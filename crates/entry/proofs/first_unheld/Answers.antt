@@ -12,14 +12,26 @@ returns-in_default c = rw c.in_default.ensures refl
 
 pub returns-then-not-is_held : goal.returns-then-not-is_held
 returns-then-not-is_held c =
-    rw (c.in-Some.ensures.1, sym c.in-Some.ensures.0, sym c.len-places.ensures, c.loop-place.invariant,
-        unheld_left _ _ _ _ c.loop-place-test.true, sym c.wanted_at.ensures, sym c.is_held.ensures,
-        c.if-not-is_held.true) refl
+    rw (
+      c.in-Some.ensures.1,
+      sym c.in-Some.ensures.0,
+      sym c.len-places.ensures,
+      c.loop-place.invariant,
+      unheld_left _ _ _ _ c.loop-place-test.true,
+      sym c.wanted_at.ensures,
+      sym c.is_held.ensures,
+      c.if-not-is_held.true,
+    ) refl
 
 pub loop-place-preserved : goal.loop-place-preserved
 loop-place-preserved c =
-    rw (c.loop-place.invariant, unheld_left _ _ _ _ c.loop-place-test.true, sym c.wanted_at.ensures, sym c.is_held.ensures,
-        c.if-not-is_held.false) refl
+    rw (
+      c.loop-place.invariant,
+      unheld_left _ _ _ _ c.loop-place-test.true,
+      sym c.wanted_at.ensures,
+      sym c.is_held.ensures,
+      c.if-not-is_held.false,
+    ) refl
 
 pub returns : goal.returns
 returns c =
