@@ -62,7 +62,7 @@ pub fn proper_lists(list: &[u32], paired: bool) -> Option<Changes>
     }
 }
 
-// The pair (binding, key) is among these.
+// The pair (binding, key) is among these. By its two numbers: with `contains(&[binding, key])` the proof did not close by itself.
 fn is_among(pairs: &[[u32; 2]], binding: u32, key: u32) -> bool
     ensures { result ≡ list_any (is_pair binding key) pairs.now }
 {

@@ -43,8 +43,9 @@ pub fn remove_sources(storage: &mut Storage, list: Changes, clear: Answer) -> An
         let Some(key) = change.before else {
             continue;
         };
-        if storage.remove(change.posting(key)).is_err() {
-            return Err(Failure::Source(number as u32));
+        match storage.remove(change.posting(key)) {
+            Ok(()) => {}
+            Err(_) => return Err(Failure::Source(number as u32)),
         }
     }
     clear
