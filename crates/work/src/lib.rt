@@ -50,7 +50,8 @@ fn stored<'a, 's>(head: Head, table: &'a mut [u32], strip: &'s [u8]) -> Storage<
     }
 }
 
-// The destinations come in. The record is written only after the last insertion.
+// The destinations come in. The record is written only after the last insertion. That it has room is asked for from the check down to
+// the one write: a type of list and record would be made for that alone.
 fn bring(storage: &mut Storage, list: Changes, record: &mut [u32]) -> Answer
     requires { length (changes list.numbers.now) ≤ length «record».old }
     ensures stage { StageIn (brought storage.old (changes list.entry.numbers.now)) result storage.old storage.new }
