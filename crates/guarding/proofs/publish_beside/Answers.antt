@@ -14,5 +14,6 @@ returns-in-Ok c =
 
 pub returns-in-Err : goal.returns-in-Err
 returns-in-Err c =
-    sym (core_refuses c.args.head c.args.table.now c.args.list.now c.args.strip.now c.args.record.now c.in-Err.why)
-    ∙ core_after c.args.head c.args.table.now c.args.list.now c.args.strip.now c.args.record.now (sym c.in-Err.ensures)
+    rw c.refused.ensures
+    (sym (core_refuses c.args.head c.args.table.now c.args.list.now c.args.strip.now c.args.record.now c.in-Err.why)
+    ∙ core_after c.args.head c.args.table.now c.args.list.now c.args.strip.now c.args.record.now (sym c.in-Err.ensures))
