@@ -2,7 +2,7 @@
 -- (9).
 use Rattle.std.proofs.Common.{Option, Some, None, Result, Ok, ℕ}
 use Prim.Native.Nat.{ℕ, ◌+◌, ◌<◌, ◌≤◌}
-use mathlib.Core.Path.{◌≡◌, refl, ap, ◌∙◌}
+use mathlib.Core.Path.{◌≡◌, refl, ap}
 use mathlib.Core.List.{List, [], ◌∷◌}
 use mathlib.Core.Bool.{Bool, false, not, ◌||◌}
 use lib.ListN.{length, drop, get_or}

@@ -1,11 +1,11 @@
 -- Answer 7: the search for two equal destinations, for a later change j among the changes i before it.
-use Rattle.std.proofs.Common.{Option, Some, None, Result, Ok, Err, ℕ}
+use Rattle.std.proofs.Common.{Option, Some, None, Result, Ok, ℕ}
 use Prim.Native.Nat.{ℕ, ◌+◌, ◌<◌, ◌≤◌}
 use native.Mathlib.Omega.{arith}
-use mathlib.Core.Path.{◌≡◌, refl, sym, ap, ◌∙◌}
+use mathlib.Core.Path.{◌≡◌, refl, sym, ◌∙◌}
 use mathlib.Core.List.{List, [], ◌∷◌, ◌++◌, append-nil}
-use mathlib.Core.Bool.{Bool, true, false, not}
-use lib.ListN.{length, take, drop, get_or}
+use mathlib.Core.Bool.{true, not}
+use lib.ListN.{length, take, drop}
 use lib.Seq.{length-take-le, get_or-take}
 use Rattle.rules.specs.declared.Change.{Change}
 use Rattle.rules.specs.declared.Failure.{Failure}
@@ -14,7 +14,7 @@ use Rattle.rules.specs.Orders.{destination_of, Numbered, named, destinations_fro
 use Rattle.rules.specs.Checks.{must, or_else, first_failing, first_equal, twice_from, twice_check}
 use Rattle.changes.proofs.Walk.{destinations_left, destinations_none, destinations_behind}
 use Rattle.clashes.specs.Keys.{under_key, one_destination}
-use Rattle.clashes.specs.Pairs.{at, first_of, sought, seek}
+use Rattle.clashes.specs.Pairs.{at, sought, seek}
 use Rattle.clashes.proofs.Named.{first_destination, no_destination}
 
 -- a change with no destination equals none

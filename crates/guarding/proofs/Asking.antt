@@ -6,9 +6,9 @@ use native.Mathlib.Omega.{arith}
 use native.Mathlib.Numerals.{add-one}
 use mathlib.Core.Path.{◌≡◌, refl, sym, ap, ◌∙◌}
 use mathlib.Core.List.{List, [], ◌∷◌}
-use mathlib.Core.Bool.{Bool, true, false, not, cond, ◌&&◌, ◌||◌}
+use mathlib.Core.Bool.{Bool, true, false, cond, ◌&&◌}
 use mathlib.Mathlib.Data.Bool.Basic.{and_elim_left, and_elim_right, and_intro}
-use lib.Dec.{T, eqb, leb}
+use lib.Dec.{eqb, leb}
 use lib.ListN.{length, drop, get_or, drop_of_length-le}
 use lib.Seq.{drop-cons}
 use borrow.Author.Tests.{eq-eqb, ne_eqb}
@@ -24,7 +24,7 @@ use Rattle.checks.specs.Guarding.{first_unheld, bindings_from}
 use Rattle.checks.proofs.Guarding.{unheld_known}
 use Rattle.laws.proofs.Checks.{opened, order_passed}
 use Rattle.publish_core.proofs.Publishing.{order_proper}
-use Rattle.guarding.specs.Asking.{flat, wanted_of, wanted_at, wanted_held, keys_asked, unheld_from, unheld_place}
+use Rattle.guarding.specs.Asking.{flat, wanted_of, wanted_at, wanted_held, unheld_from, unheld_place}
 
 -- the flat numbers mean the guards
 pub flat_guards : (gs : List Guard) → guards (flat gs) ≡ gs

@@ -1,5 +1,5 @@
 -- At each turn what all changes, or all earlier ones, are answered is what the rest are; a pair has not been found.
-use Rattle.std.proofs.Common.{◌≡◌, Option, None}
+use Rattle.std.proofs.Common.{◌≡◌, None}
 use Rattle.rules.specs.Orders.{changes}
 use Rattle.rules.specs.Checks.{twice_check}
 use Rattle.clashes.specs.Pairs.{seek}

@@ -1,5 +1,5 @@
 -- A place up to which each key that is named is held.
-use Rattle.std.proofs.Common.{◌-◌, ◌*◌, ◌≡◌, length}
+use Rattle.std.proofs.Common.{◌-◌, ◌≡◌}
 use Rattle.rules.specs.Orders.{changes}
 use Rattle.guarding.specs.Asking.{unheld_from}
 use Rattle.entry.proofs.first_unheld.Given as goal

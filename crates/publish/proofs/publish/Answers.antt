@@ -1,7 +1,5 @@
 -- The order and its guards, and then the core.
-use Rattle.std.proofs.Common.{Err, refl, sym, ap, ◌∙◌}
-use Rattle.rules.specs.Orders.{proper_guards, lending}
-use Rattle.rules.specs.Calls.{as_before, publish_of}
+use Rattle.std.proofs.Common.{refl, sym, ap, ◌∙◌}
 use Rattle.publish_core.proofs.Publishing.{asked_ready, core_publishes, core_after, core_refuses}
 use Rattle.publish.specs.Promises.{seen_of}
 use Rattle.publish.proofs.publish.Goals as goal
