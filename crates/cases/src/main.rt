@@ -91,8 +91,8 @@ impl Lists {
 fn write_answer<W: Write>(out: &mut W, done: Done) -> io::Result<()> {
     let told = rules::Told::from(done.answer);
     write!(out, ": answer {} names {}", told.answer, told.named)?;
-    if told.answer == 7 {
-        write!(out, " {}", told.other)?;
+    if let Err(rules::Failure::Twice(_, later)) = done.answer {
+        write!(out, " {}", later)?;
     }
     Ok(())
 }
