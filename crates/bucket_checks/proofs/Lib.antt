@@ -1,2 +1,2 @@
--- The laws of the checks: one for each way that a test can go.
-pub mod Checking
+-- What the checks find.
+pub mod Finding

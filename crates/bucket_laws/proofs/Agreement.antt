@@ -3,8 +3,9 @@ use Prim.Native.Nat.{ℕ}
 use native.Mathlib.Omega.{arith}
 use mathlib.Core.Path.{◌≡◌}
 use mathlib.Core.List.{List}
+use Rattle.std.proofs.Common.{Ok, Err}
 use Rattle.bucket_rules.specs.Calls.{sort_of, bitmap_of}
-use Rattle.bucket_laws.specs.Clauses.{FirstInvalid, Canonical, Result, BucketResult, EquivalentResults, Gives, OutputRoom}
+use Rattle.bucket_laws.specs.Clauses.{FirstInvalid, Canonical, UpstreamResult, BucketResult, EquivalentResults, Gives, OutputRoom}
 use Rattle.bucket_laws.specs.Clauses.{BitmapRoom, Agree}
 use Rattle.bucket_laws.proofs.Standing.{among_below}
 use Rattle.lent_lists.proofs.Among.{place_among}
@@ -24,18 +25,18 @@ canonical_not_invalid input count output bad c f =
 
 -- any two results that upstream allows are equivalent
 pub results_equivalent :
-    (input : List ℕ) (count : ℕ) (r s : Result) → BucketResult input count r → BucketResult input count s →
+    (input : List ℕ) (count : ℕ) (r s : UpstreamResult) → BucketResult input count r → BucketResult input count s →
     EquivalentResults r s
-results_equivalent input count (Result.Ok l) (Result.Ok m) p q = canonical_unique input count l m p q
-results_equivalent input count (Result.Ok l) (Result.Err b) p q = canonical_not_invalid input count l b p q
-results_equivalent input count (Result.Err a) (Result.Ok m) p q = canonical_not_invalid input count m a q p
-results_equivalent input count (Result.Err a) (Result.Err b) p q = first_unique input count a b p q
+results_equivalent input count (Ok l) (Ok m) p q = canonical_unique input count l m p q
+results_equivalent input count (Ok l) (Err b) p q = canonical_not_invalid input count l b p q
+results_equivalent input count (Err a) (Ok m) p q = canonical_not_invalid input count m a q p
+results_equivalent input count (Err a) (Err b) p q = first_unique input count a b p q
 
 -- the outputs and the scratch may be any
 module _ (input : List ℕ) (count : ℕ) (output other scratch : List ℕ) where
   -- whatever results the two engines give are equivalent
   pub engines_equivalent :
-      (r s : Result) → Gives (sort_of input count output) r → Gives (bitmap_of input count other scratch) s →
+      (r s : UpstreamResult) → Gives (sort_of input count output) r → Gives (bitmap_of input count other scratch) s →
       EquivalentResults r s
   engines_equivalent r s g h =
       results_equivalent input count r s ((sort_clauses input count output).holds r g)

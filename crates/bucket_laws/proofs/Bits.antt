@@ -11,11 +11,12 @@ use lib.Seq.{ext_get_or}
 use lib.Dec.{ltb}
 use lib.Pow.{pow_pos}
 use borrow.Author.Tests.{ltb-true, ltb-false}
+use Rattle.std.proofs.Common.{Ok}
 use Rattle.lent_lists.proofs.Writing.{length_written, written_front, written_later}
 use Rattle.booleans.proofs.Tests.{either}
 use Rattle.masks.specs.Masks.{most_lanes, lane_in}
 use Rattle.masks.proofs.Lanes.{no_lane, same_lanes}
-use Rattle.bucket_rules.specs.declared.Answer.{Answer}
+use Rattle.bucket_rules.specs.Answers.{Answer}
 use Rattle.bucket_rules.specs.Buckets.{mark, numbers_for, membership}
 use Rattle.lent_lists.specs.Among.{among}
 use Rattle.bucket_rules.specs.Calls.{list_after, bitmap_of}
@@ -103,19 +104,19 @@ unfolding bitmap_of
 scratch_clauses input count output scratch =
     record {
       bits = λ n e.
-          let k = accepted_of ((bitmap_exactly input count output scratch (Answer.Accepted n)).0 e) in
+          let k = accepted_of ((bitmap_exactly input count output scratch (Ok n)).0 e) in
           rw (front n e) (membership_bits input count k.2);
       later = λ n e. later n e;
       long = long _ ((bitmap_exactly input count output scratch _).0 refl);
     }
   where
     front :
-        (n : ℕ) → (bitmap_of input count output scratch).answer ≡ Answer.Accepted n →
+        (n : ℕ) → (bitmap_of input count output scratch).answer ≡ Ok n →
         take (numbers_for count) (bitmap_of input count output scratch).scratch ≡ membership input count
     front n e = rw (e, ← length_membership input count) (written_front (membership input count) scratch)
 
     later :
-        (n : ℕ) → (bitmap_of input count output scratch).answer ≡ Answer.Accepted n →
+        (n : ℕ) → (bitmap_of input count output scratch).answer ≡ Ok n →
         drop (numbers_for count) (bitmap_of input count output scratch).scratch ≡ drop (numbers_for count) scratch
     later n e = rw (e, ← length_membership input count) (written_later (membership input count) scratch)
 

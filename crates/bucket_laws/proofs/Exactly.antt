@@ -8,11 +8,12 @@ use mathlib.Mathlib.Data.Bool.Basic.{or_inr}
 use lib.ListN.{length}
 use lib.Dec.{ltb}
 use borrow.Author.Tests.{ltb-true, ltb-false, lt-ltb, le-ltb}
+use Rattle.std.proofs.Common.{Ok, Err}
 use Rattle.booleans.proofs.Tests.{by_cases, or_left, or_right, or_cases, neither}
-use Rattle.bucket_rules.specs.declared.Answer.{Answer}
-use Rattle.bucket_rules.specs.declared.Verdict.{Verdict}
+use Rattle.bucket_rules.specs.declared.Failure.{Failure}
+use Rattle.bucket_rules.specs.Answers.{Answer}
 use Rattle.bucket_rules.specs.Buckets.{distinct, numbers_for}
-use Rattle.bucket_rules.specs.Calls.{most_input, most_buckets, over_limits, short_output, short_scratch, range_check, checks, settled}
+use Rattle.bucket_rules.specs.Calls.{Verdict, most_input, most_buckets, over_limits, short_output, short_scratch, range_check, checks, settled}
 use Rattle.bucket_rules.specs.Calls.{answer_of, sort_of, bitmap_of}
 use Rattle.bucket_laws.specs.Clauses.{InRange, FirstInvalid, WithinLimits, OverLimits, OutputRoom, OutputShort, ScratchRoom}
 use Rattle.bucket_laws.specs.Clauses.{ScratchShort, BitmapRoom, BitmapShort, Answers, SortAnswers, BitmapAnswers}
@@ -135,20 +136,20 @@ module _ (input : List ℕ) (count : ℕ) (short : Bool) (Short Room : Type 0)
 
 module _ {input : List ℕ} {count : ℕ} {Short Room : Type 0} where
   -- 30, taken apart
-  pub limits_of : Answers input count Short Room Answer.Limits → OverLimits input count
+  pub limits_of : Answers input count Short Room (Err Failure.Limits) → OverLimits input count
   limits_of (Answers.limits o) = o
 
   -- 31, taken apart
-  pub short_of : Answers input count Short Room Answer.Room → WithinLimits input count × Short
+  pub short_of : Answers input count Short Room (Err Failure.Room) → WithinLimits input count × Short
   short_of (Answers.short w s) = (w, s)
 
   -- 32, taken apart
-  pub range_of : {b : ℕ} → Answers input count Short Room (Answer.Range b) → WithinLimits input count × Room × FirstInvalid input count b
+  pub range_of : {b : ℕ} → Answers input count Short Room (Err (Failure.Range b)) → WithinLimits input count × Room × FirstInvalid input count b
   range_of (Answers.range w r f) = (w, r, f)
 
   -- 0, taken apart
   pub accepted_of :
-      {n : ℕ} → Answers input count Short Room (Answer.Accepted n) →
+      {n : ℕ} → Answers input count Short Room (Ok n) →
       WithinLimits input count × Room × InRange input count × (n ≡ length (distinct input count))
   accepted_of (Answers.accepted w r i e) = (w, r, i, e)
 
@@ -161,31 +162,31 @@ module _ (input : List ℕ) (count : ℕ) (output : List ℕ) where
       (OutputRoom input count output) (short_output_exactly input count output) (room_output_exactly input count output) a
 
   -- 30 exactly where the input has more than 4,096 numbers or there are more than 65,536 buckets
-  pub sort_limits_exactly : ((sort_of input count output).answer ≡ Answer.Limits) ↔ OverLimits input count
+  pub sort_limits_exactly : ((sort_of input count output).answer ≡ Err Failure.Limits) ↔ OverLimits input count
   sort_limits_exactly =
-      let e = sort_exactly Answer.Limits in (λ h. limits_of (e.0 h), λ o. e.1 (Answers.limits o))
+      let e = sort_exactly (Err Failure.Limits) in (λ h. limits_of (e.0 h), λ o. e.1 (Answers.limits o))
 
   -- 31 exactly where neither is so and the output is shorter than the smaller of input length and bucket count
   pub sort_room_exactly :
-      ((sort_of input count output).answer ≡ Answer.Room) ↔ (WithinLimits input count × OutputShort input count output)
+      ((sort_of input count output).answer ≡ Err Failure.Room) ↔ (WithinLimits input count × OutputShort input count output)
   sort_room_exactly =
-      let e = sort_exactly Answer.Room in (λ h. short_of (e.0 h), λ p. e.1 (Answers.short p.0 p.1))
+      let e = sort_exactly (Err Failure.Room) in (λ h. short_of (e.0 h), λ p. e.1 (Answers.short p.0 p.1))
 
   -- 32 with an element exactly where none of this is so and that is the first element not below the count
   pub sort_range_exactly :
       (b : ℕ) →
-      ((sort_of input count output).answer ≡ Answer.Range b)
+      ((sort_of input count output).answer ≡ Err (Failure.Range b))
       ↔ (WithinLimits input count × OutputRoom input count output × FirstInvalid input count b)
   sort_range_exactly b =
-      let e = sort_exactly (Answer.Range b) in (λ h. range_of (e.0 h), λ p. e.1 (Answers.range p.0 p.1 p.2))
+      let e = sort_exactly (Err (Failure.Range b)) in (λ h. range_of (e.0 h), λ p. e.1 (Answers.range p.0 p.1 p.2))
 
   -- 0 exactly where all is as asked, with the number of distinct elements
   pub sort_accepted_exactly :
       (n : ℕ) →
-      ((sort_of input count output).answer ≡ Answer.Accepted n)
+      ((sort_of input count output).answer ≡ Ok n)
       ↔ (WithinLimits input count × OutputRoom input count output × InRange input count × (n ≡ length (distinct input count)))
   sort_accepted_exactly n =
-      let e = sort_exactly (Answer.Accepted n) in
+      let e = sort_exactly (Ok n) in
       (λ h. accepted_of (e.0 h), λ p. e.1 (Answers.accepted p.0 p.1 p.2 p.3))
 
 module _ (input : List ℕ) (count : ℕ) (output scratch : List ℕ) where
@@ -199,31 +200,31 @@ module _ (input : List ℕ) (count : ℕ) (output scratch : List ℕ) where
       (short_bitmap_exactly input count output scratch) (room_bitmap_exactly input count output scratch) a
 
   -- 30 exactly where the input has more than 4,096 numbers or there are more than 65,536 buckets
-  pub bitmap_limits_exactly : ((bitmap_of input count output scratch).answer ≡ Answer.Limits) ↔ OverLimits input count
+  pub bitmap_limits_exactly : ((bitmap_of input count output scratch).answer ≡ Err Failure.Limits) ↔ OverLimits input count
   bitmap_limits_exactly =
-      let e = bitmap_exactly Answer.Limits in (λ h. limits_of (e.0 h), λ o. e.1 (Answers.limits o))
+      let e = bitmap_exactly (Err Failure.Limits) in (λ h. limits_of (e.0 h), λ o. e.1 (Answers.limits o))
 
   -- 31 exactly where neither is so and output or scratch is too short
   pub bitmap_room_exactly :
-      ((bitmap_of input count output scratch).answer ≡ Answer.Room)
+      ((bitmap_of input count output scratch).answer ≡ Err Failure.Room)
       ↔ (WithinLimits input count × BitmapShort input count output scratch)
   bitmap_room_exactly =
-      let e = bitmap_exactly Answer.Room in (λ h. short_of (e.0 h), λ p. e.1 (Answers.short p.0 p.1))
+      let e = bitmap_exactly (Err Failure.Room) in (λ h. short_of (e.0 h), λ p. e.1 (Answers.short p.0 p.1))
 
   -- 32 with an element exactly where none of this is so and that is the first element not below the count
   pub bitmap_range_exactly :
       (b : ℕ) →
-      ((bitmap_of input count output scratch).answer ≡ Answer.Range b)
+      ((bitmap_of input count output scratch).answer ≡ Err (Failure.Range b))
       ↔ (WithinLimits input count × BitmapRoom input count output scratch × FirstInvalid input count b)
   bitmap_range_exactly b =
-      let e = bitmap_exactly (Answer.Range b) in (λ h. range_of (e.0 h), λ p. e.1 (Answers.range p.0 p.1 p.2))
+      let e = bitmap_exactly (Err (Failure.Range b)) in (λ h. range_of (e.0 h), λ p. e.1 (Answers.range p.0 p.1 p.2))
 
   -- 0 exactly where all is as asked, with the number of distinct elements
   pub bitmap_accepted_exactly :
       (n : ℕ) →
-      ((bitmap_of input count output scratch).answer ≡ Answer.Accepted n)
+      ((bitmap_of input count output scratch).answer ≡ Ok n)
       ↔ (WithinLimits input count × BitmapRoom input count output scratch × InRange input count
       × (n ≡ length (distinct input count)))
   bitmap_accepted_exactly n =
-      let e = bitmap_exactly (Answer.Accepted n) in
+      let e = bitmap_exactly (Ok n) in
       (λ h. accepted_of (e.0 h), λ p. e.1 (Answers.accepted p.0 p.1 p.2 p.3))

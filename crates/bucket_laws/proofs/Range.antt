@@ -8,16 +8,16 @@ use mathlib.Core.Logic.{◌↔◌}
 use lib.ListN.{get_or}
 use lib.Dec.{ltb}
 use borrow.Author.Tests.{ltb-true, ltb-false}
+use Rattle.std.proofs.Common.{Ok, Err}
 use Rattle.booleans.proofs.Tests.{by_cases}
-use Rattle.bucket_rules.specs.declared.Answer.{Answer}
-use Rattle.bucket_rules.specs.declared.Verdict.{Verdict}
-use Rattle.bucket_rules.specs.Calls.{range_check}
+use Rattle.bucket_rules.specs.declared.Failure.{Failure}
+use Rattle.bucket_rules.specs.Calls.{Verdict, range_check}
 use Rattle.bucket_laws.specs.Clauses.{InRange, FirstInvalid}
 
 -- what the check finds, and where
 pub data Ranged (input : List ℕ) (count : ℕ) : Verdict → Type 0 where
-  inside : InRange input count → Ranged input count Verdict.Passes
-  outside : {b : ℕ} → FirstInvalid input count b → Ranged input count (Verdict.Refused (Answer.Range b))
+  inside : InRange input count → Ranged input count (Ok tt)
+  outside : {b : ℕ} → FirstInvalid input count b → Ranged input count (Err (Failure.Range b))
 
 -- one element more that is below the count, before others that are
 range_next : (b : ℕ) (rest : List ℕ) (count : ℕ) → b < count → InRange rest count → InRange (b ∷ rest) count
@@ -92,26 +92,26 @@ range_placed input count v k = go (range_check count input) (ranged input count)
     go u (Ranged.outside {b = a} f) w (Ranged.outside {b = b} g) = rw (first_unique input count a b f g)
 
 -- a passed check, taken apart
-ranged_inside : (input : List ℕ) (count : ℕ) → Ranged input count Verdict.Passes → InRange input count
+ranged_inside : (input : List ℕ) (count : ℕ) → Ranged input count (Ok tt) → InRange input count
 ranged_inside input count (Ranged.inside r) = r
 
 -- a refusal of the check, taken apart
 ranged_outside :
-    (input : List ℕ) (count b : ℕ) → Ranged input count (Verdict.Refused (Answer.Range b)) → FirstInvalid input count b
+    (input : List ℕ) (count b : ℕ) → Ranged input count (Err (Failure.Range b)) → FirstInvalid input count b
 ranged_outside input count b (Ranged.outside f) = f
 
 -- the check passes exactly where every element is below the count
-pub range_passes_exactly : (input : List ℕ) (count : ℕ) → (range_check count input ≡ Verdict.Passes) ↔ InRange input count
+pub range_passes_exactly : (input : List ℕ) (count : ℕ) → (range_check count input ≡ Ok tt) ↔ InRange input count
 range_passes_exactly input count = (
   λ e. ranged_inside input count (subst (Ranged input count) e (ranged input count)),
-  λ r. range_placed input count Verdict.Passes (Ranged.inside r),
+  λ r. range_placed input count (Ok tt) (Ranged.inside r),
 )
 
 -- the check names an element exactly where that is the first that is not below the count
 pub range_names_exactly :
     (input : List ℕ) (count b : ℕ) →
-    (range_check count input ≡ Verdict.Refused (Answer.Range b)) ↔ FirstInvalid input count b
+    (range_check count input ≡ Err (Failure.Range b)) ↔ FirstInvalid input count b
 range_names_exactly input count b = (
   λ e. ranged_outside input count b (subst (Ranged input count) e (ranged input count)),
-  λ f. range_placed input count (Verdict.Refused (Answer.Range b)) (Ranged.outside f),
+  λ f. range_placed input count (Err (Failure.Range b)) (Ranged.outside f),
 )

@@ -7,14 +7,14 @@ use mathlib.Core.List.{List, []}
 use mathlib.Core.Bool.{Bool, false}
 use mathlib.Core.Logic.{◌↔◌}
 use lib.ListN.{length, take}
+use Rattle.std.proofs.Common.{Ok, Err}
 use Rattle.lent_lists.proofs.Writing.{length_written, written_front, written_later}
-use Rattle.bucket_rules.specs.declared.Answer.{Answer}
-use Rattle.bucket_rules.specs.declared.Verdict.{Verdict}
-use Rattle.bucket_rules.specs.Answers.{is_accepted}
+use Rattle.bucket_rules.specs.declared.Failure.{Failure}
+use Rattle.bucket_rules.specs.Answers.{Answer, is_accepted}
 use Rattle.bucket_rules.specs.Buckets.{distinct}
 use Rattle.lent_lists.specs.Among.{among}
 use Rattle.bucket_rules.specs.Calls.{range_check, list_after, Outcome, sort_of, bitmap_of}
-use Rattle.bucket_laws.specs.Clauses.{InRange, Contains, Canonical, Result, BucketResult, Gives, OutputRoom, OutputShort, BitmapRoom}
+use Rattle.bucket_laws.specs.Clauses.{InRange, Contains, Canonical, UpstreamResult, BucketResult, Gives, OutputRoom, OutputShort, BitmapRoom}
 use Rattle.bucket_laws.specs.Clauses.{BitmapShort, Answers, BucketClauses}
 use Rattle.bucket_laws.proofs.Standing.{among_below}
 use Rattle.lent_lists.proofs.Among.{among_exactly}
@@ -63,7 +63,7 @@ in_range_canonical input count r =
 
 -- where the check of the range passes, the distinct elements are upstream's canonical list
 pub distinct_canonical :
-    (input : List ℕ) (count : ℕ) → range_check count input ≡ Verdict.Passes → Canonical input count (distinct input count)
+    (input : List ℕ) (count : ℕ) → range_check count input ≡ Ok tt → Canonical input count (distinct input count)
 distinct_canonical input count h = in_range_canonical input count ((range_passes_exactly input count).0 h)
 
 -- an output with room has it for the distinct elements
@@ -85,7 +85,7 @@ module _ (input : List ℕ) (count : ℕ) (output scratch after : List ℕ) (Sho
   Found = Answers input count Short Room
 
   -- after success the front of the output is the list of distinct elements
-  front : (a : Answer) (n : ℕ) → Found a → a ≡ Answer.Accepted n → take n (seen a).output ≡ distinct input count
+  front : (a : Answer) (n : ℕ) → Found a → a ≡ Ok n → take n (seen a).output ≡ distinct input count
   front a n k e =
       let named = (accepted_of (subst Found e k)).3 in rw (e, named) (written_front (distinct input count) output)
 
@@ -99,14 +99,14 @@ module _ (input : List ℕ) (count : ℕ) (output scratch after : List ℕ) (Sho
 
   -- there is a result, unless the answer is 30 or 31
   result :
-      (a : Answer) → (a ≡ Answer.Limits → ⊥) → (a ≡ Answer.Room → ⊥) → (r : Result) × Gives (seen a) r
-  result (Answer.Accepted n) l m = (_, Gives.ok refl)
-  result Answer.Limits l m = absurd (l refl)
-  result Answer.Room l m = absurd (m refl)
-  result (Answer.Range b) l m = (_, Gives.err refl)
+      (a : Answer) → (a ≡ Err Failure.Limits → ⊥) → (a ≡ Err Failure.Room → ⊥) → (r : UpstreamResult) × Gives (seen a) r
+  result (Ok n) l m = (_, Gives.ok refl)
+  result (Err Failure.Limits) l m = absurd (l refl)
+  result (Err Failure.Room) l m = absurd (m refl)
+  result (Err (Failure.Range b)) l m = (_, Gives.err refl)
 
   -- the result is as upstream says
-  holds : (a : Answer) → Found a → (r : Result) → Gives (seen a) r → BucketResult input count r
+  holds : (a : Answer) → Found a → (r : UpstreamResult) → Gives (seen a) r → BucketResult input count r
   holds a k r (Gives.ok {n} e) =
       rw (front a n k e) (in_range_canonical input count (accepted_of (subst Found e k)).2)
   holds a k r (Gives.err e) = (range_of (subst Found e k)).2

@@ -5,7 +5,7 @@ use mathlib.Core.Path.{◌≡◌, sym, ap, ◌∙◌, subst}
 use mathlib.Core.List.{List, []}
 use mathlib.Core.Bool.{Bool, true}
 use mathlib.Core.Logic.{◌↔◌}
-use Rattle.bucket_rules.specs.declared.Answer.{Answer}
+use Rattle.bucket_rules.specs.Answers.{Answer}
 use Rattle.bucket_rules.specs.Calls.{Outcome, sort_of, bitmap_of}
 use Rattle.bucket_laws.specs.Clauses.{OutputRoom, BitmapRoom, SortAnswers, BitmapAnswers, BucketClauses, ScratchClauses, Agree}
 use Rattle.bucket_laws.proofs.Exactly as exactly

@@ -3,7 +3,7 @@ use Prim.Native.Nat.{ℕ}
 use mathlib.Core.Path.{◌≡◌, sym, ap, ◌∙◌}
 use mathlib.Core.List.{List, []}
 use mathlib.Core.Bool.{Bool}
-use Rattle.bucket_rules.specs.declared.Answer.{Answer}
+use Rattle.bucket_rules.specs.Answers.{Answer}
 use Rattle.bucket_rules.specs.Calls.{Outcome}
 use Rattle.bucket_laws.proofs.Answers.{told_injective}
 use Rattle.buckets.specs.Promises.{Seen, outcome_of, seen, SortPromise, BitmapPromise, PrecedesPromise}

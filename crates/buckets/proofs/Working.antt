@@ -1,20 +1,19 @@
 -- What the rules say where the checks refuse, and where they pass: then there is room, and what the engines write is what is said.
 use Prim.Native.Nat.{ℕ, ◌≤◌}
 use native.Mathlib.Omega.{arith}
-use mathlib.Core.Path.{◌≡◌, refl, subst}
+use mathlib.Core.Path.{◌≡◌, refl}
 use mathlib.Core.List.{List, []}
-use mathlib.Core.Bool.{Bool, false, ◌||◌}
+use mathlib.Core.Bool.{false, ◌||◌}
 use lib.ListN.{length}
-use Rattle.booleans.proofs.Tests.{by_cases}
 use Rattle.lent_lists.specs.Written.{written}
-use Rattle.bucket_rules.specs.declared.Answer.{Answer}
-use Rattle.bucket_rules.specs.declared.Verdict.{Verdict}
+use Rattle.bucket_rules.specs.declared.Failure.{Failure}
+use Rattle.std.proofs.Common.{Ok, Err}
 use Rattle.bucket_rules.specs.Answers.{is_accepted}
 use Rattle.bucket_rules.specs.Buckets.{distinct, membership}
-use Rattle.bucket_rules.specs.Calls.{most_input, over_limits, short_output, short_scratch, range_check, checks, answer_of, sort_of, bitmap_of}
+use Rattle.bucket_rules.specs.Calls.{most_input, short_output, short_scratch, checks, answer_of, sort_of, bitmap_of}
 use Rattle.bucket_laws.specs.Clauses.{InRange, WithinLimits, OutputRoom, BitmapRoom}
+use Rattle.bucket_laws.specs.Writing.{Wrote}
 use Rattle.bucket_laws.proofs.Choosing.{length_distinct}
-use Rattle.bucket_laws.proofs.Range.{Ranged, ranged}
 use Rattle.bucket_laws.proofs.Exactly.{sort_accepted_exactly, bitmap_accepted_exactly}
 use Rattle.bucket_laws.proofs.Upstream.{distinct_fits}
 use Rattle.sorting.specs.Gathering.{gathered}
@@ -22,35 +21,22 @@ use Rattle.sorting.proofs.Distinct.{gathered_distinct}
 use Rattle.bitmaps.specs.Bitmaps.{Holds}
 use Rattle.buckets.specs.Promises.{outcome_of}
 
-module _ (input : List ℕ) (count : ℕ) where
-  -- a refusal is never an answer of success
-  abbrev Refusal : Verdict → Type 0
-  Refusal Verdict.Passes = Unit {0}
-  Refusal (Verdict.Refused a) = is_accepted a ≡ false
-
-  refusal : (short : Bool) → Refusal (checks short input count)
-  unfolding checks
-  refusal short =
-      by_cases Refusal (over_limits input count) (λ e. refl)
-      (λ e. by_cases Refusal short (λ f. refl) (λ f. ranged_refusal (range_check count input) (ranged input count)))
-    where
-      ranged_refusal : (v : Verdict) → Ranged input count v → Refusal v
-      ranged_refusal v (Ranged.inside r) = tt
-      ranged_refusal v (Ranged.outside f) = refl
-
-  refused_not_accepted : (short : Bool) {a : Answer} → checks short input count ≡ Verdict.Refused a → is_accepted a ≡ false
-  refused_not_accepted short e = subst Refusal e (refusal short)
+-- a refusal is no answer of success
+refused : (f : Failure) → is_accepted (Err f) ≡ false
+refused Failure.Limits = refl
+refused Failure.Room = refl
+refused (Failure.Range b) = refl
 
 module _ (input : List ℕ) (count : ℕ) (output : List ℕ) where
   -- the sorting engine refuses
   pub sort_refused :
-      (a : Answer) → checks (short_output input count output) input count ≡ Verdict.Refused a →
-      outcome_of a output [] ≡ sort_of input count output
+      (f : Failure) → checks (short_output input count output) input count ≡ Err f →
+      outcome_of (Err f) output [] ≡ sort_of input count output
   unfolding sort_of answer_of
-  sort_refused a e = rw (e, refused_not_accepted input count (short_output input count output) e)
+  sort_refused f e = rw (e, refused f)
 
-  module _ (p : checks (short_output input count output) input count ≡ Verdict.Passes) where
-    accepted : (sort_of input count output).answer ≡ Answer.Accepted (length (distinct input count))
+  module _ (p : checks (short_output input count output) input count ≡ Ok tt) where
+    accepted : (sort_of input count output).answer ≡ Ok (length (distinct input count))
     unfolding sort_of answer_of
     accepted = rw p
 
@@ -77,22 +63,21 @@ module _ (input : List ℕ) (count : ℕ) (output : List ℕ) where
 
     -- and what is gathered is what the rules say
     pub sort_passed :
-        {n : ℕ} {output' : List ℕ} → n ≡ length (gathered [] input) → output' ≡ written (gathered [] input) output →
-        outcome_of (Answer.Accepted n) output' [] ≡ sort_of input count output
+        {n : ℕ} {output' : List ℕ} → Wrote (gathered [] input) n output output' →
+        outcome_of (Ok n) output' [] ≡ sort_of input count output
     unfolding sort_of answer_of
-    sort_passed e f = rw (p, e, f, same)
+    sort_passed wrote = rw (p, wrote.value, wrote.output_after, same)
 
 module _ (input : List ℕ) (count : ℕ) (output scratch : List ℕ) where
   -- the bitmap engine refuses
   pub bitmap_refused :
-      (a : Answer) → checks (short_output input count output || short_scratch count scratch) input count ≡ Verdict.Refused a →
-      outcome_of a output scratch ≡ bitmap_of input count output scratch
+      (f : Failure) → checks (short_output input count output || short_scratch count scratch) input count ≡ Err f →
+      outcome_of (Err f) output scratch ≡ bitmap_of input count output scratch
   unfolding bitmap_of answer_of
-  bitmap_refused a e =
-      rw (e, refused_not_accepted input count (short_output input count output || short_scratch count scratch) e)
+  bitmap_refused f e = rw (e, refused f)
 
-  module _ (p : checks (short_output input count output || short_scratch count scratch) input count ≡ Verdict.Passes) where
-    bitmap_accepted : (bitmap_of input count output scratch).answer ≡ Answer.Accepted (length (distinct input count))
+  module _ (p : checks (short_output input count output || short_scratch count scratch) input count ≡ Ok tt) where
+    bitmap_accepted : (bitmap_of input count output scratch).answer ≡ Ok (length (distinct input count))
     unfolding bitmap_of answer_of
     bitmap_accepted = rw p
 
@@ -119,8 +104,8 @@ module _ (input : List ℕ) (count : ℕ) (output scratch : List ℕ) where
 
     -- and what is written is what the rules say
     pub bitmap_passed :
-        {n : ℕ} {output' scratch' : List ℕ} → n ≡ length (distinct input count) → output' ≡ written (distinct input count) output →
+        {n : ℕ} {output' scratch' : List ℕ} → Wrote (distinct input count) n output output' →
         scratch' ≡ written (membership input count) scratch →
-        outcome_of (Answer.Accepted n) output' scratch' ≡ bitmap_of input count output scratch
+        outcome_of (Ok n) output' scratch' ≡ bitmap_of input count output scratch
     unfolding bitmap_of answer_of
-    bitmap_passed e f g = rw (p, e, f, g)
+    bitmap_passed wrote held = rw (p, wrote.value, wrote.output_after, held)

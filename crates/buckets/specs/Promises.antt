@@ -1,8 +1,7 @@
 -- What is seen after a bucket call, and what the rules say is seen. The promise of each call is that the two are equal.
 use Rattle.std.specs.Prelude.{ℕ, ◌≡◌, List, [], Bool}
-use Rattle.bucket_rules.specs.declared.Answer.{Answer}
 use Rattle.bucket_rules.specs.declared.Told.{Told}
-use Rattle.bucket_rules.specs.Answers.{told_of}
+use Rattle.bucket_rules.specs.Answers.{Answer, told_of}
 use Rattle.bucket_rules.specs.Calls.{Outcome, sort_of, bitmap_of}
 use Rattle.bucket_rules.specs.Stamps.{precedes}
 

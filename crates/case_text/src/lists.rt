@@ -1,94 +1,162 @@
-// The lists of a program, kept in one array that is lent about in place of them all. Each has a part there: a place for its length,
-// and behind it room for its numbers. A list ends where the array ends, whatever is said of its room, so that nothing that a
-// program says of its lists can be a fault.
-ghost use Rattle.std.specs.Prelude.{◌≤◌, length};
+// The lists that the lines of a text set.
+ghost use Rattle.case_text.specs.declared.lists.ListError.TheVariants.{Memory};
+ghost use Rattle.std.specs.Prelude.{◌≡◌, ◌≤◌, [], alloc_error, replicate, vec_len, OnErr};
 
-// The smaller of two sizes.
-fn least(size: usize, other: usize) -> usize
-    ensures within_size { result ≤ size }
-    ensures within_other { result ≤ other }
+use crate::items::{self, Item};
+use crate::numbers::Number;
+use std::alloc::{AllocError, AllocFailed, Global};
+
+/// Why a line sets no list.
+#[derive(Debug, Drop)]
+pub enum ListError {
+    /// The line says no list that the program takes.
+    Malformed,
+    /// There is no memory for its numbers.
+    Memory(AllocError),
+}
+
+impl From<AllocError> for ListError {
+    ghost from_gives = { λ error made. made ≡ Memory error };
+
+    fn from(error: AllocError) -> ListError {
+        ListError::Memory(error)
+    }
+}
+
+impl<T: Drop> From<AllocFailed<T>> for ListError {
+    ghost from_gives = { λ _ made. made ≡ Memory alloc_error };
+
+    fn from(error: AllocFailed<T>) -> ListError {
+        ListError::Memory(AllocError::from(error))
+    }
+}
+
+/// A list that stands until a line sets it anew: before the first line, and after a malformed one, it is empty.
+#[derive(Drop)]
+pub struct List<T, const MOST: usize> {
+    pub numbers: Vec<T>,
+    ghost has_room: { vec_len numbers ≤ MOST },
+}
+
+impl<T: Number, const MOST: usize> List<T, MOST> {
+    /// A list that no line has set.
+    pub fn new(alloc: Global) -> Self
+        ensures { result.numbers.items ≡ [] }
+    {
+        List {
+            numbers: Vec::new(alloc),
+        }
+    }
+
+    /// Sets the list to the numbers that the items of a line say.
+    pub fn set(&mut self, items: &[u8]) -> Result<(), ListError>
+        ensures { OnErr result (self.new.numbers.items ≡ []) }
+    {
+        self.numbers.clear();
+        let added = self.add_items(items);
+        if added.is_err() {
+            self.numbers.clear();
+        }
+        added
+    }
+
+    /// Adds the numbers that the items of a text say.
+    fn add_items(&mut self, text: &[u8]) -> Result<(), ListError> {
+        let mut rest = text;
+        while let Some((first, others)) = rest.split_first() {
+            if *first == b' ' {
+                rest = others;
+                continue;
+            }
+            let (item, behind) = items::first_item(rest).ok_or(ListError::Malformed)?;
+            self.add_item(item)?;
+            rest = behind;
+        }
+        Ok(())
+    }
+
+    /// Adds the numbers of an item's group as often as is said.
+    fn add_item(&mut self, item: Item<'_>) -> Result<(), ListError> {
+        for turn in 0..item.times {
+            for word in item
+                .group
+                .split(|b| *b == b' ')
+                .filter(|word| !word.is_empty())
+            {
+                self.add(items::number_in_turn(word, turn).ok_or(ListError::Malformed)?)?;
+            }
+        }
+        Ok(())
+    }
+
+    /// Adds a number, unless its type does not have it or the list has no room.
+    fn add(&mut self, number: u32) -> Result<(), ListError> {
+        if self.numbers.len() >= MOST {
+            return Err(ListError::Malformed);
+        }
+        self.numbers
+            .push(T::from_u32(number).ok_or(ListError::Malformed)?)?;
+        Ok(())
+    }
+}
+
+/// Sets an array to the numbers that the items of a line say, which must be as many as it has places, or else to zeros.
+pub fn set_array<const N: usize>(
+    alloc: Global,
+    array: &mut [u32; N],
+    items: &[u8],
+) -> Result<(), ListError>
+    ensures { OnErr result (array.new ≡ replicate N 0) }
 {
-    if size < other { size } else { other }
-}
-
-// A number as a size.
-pub fn as_size(number: u32) -> usize
-    ensures { result ≤ 4294967295 }
-{
-    number as usize
-}
-
-// The numbers of the list whose part begins at a place.
-pub fn numbers(lists: &[u32], start: usize) -> &[u32] {
-    if start >= lists.len() {
-        return &lists[0..0];
+    array.fill(0);
+    let mut list: List<u32, N> = List::new(alloc);
+    list.set(items)?;
+    if list.numbers.len() != N {
+        return Err(ListError::Malformed);
     }
-    let from = start + 1;
-    let behind = &lists[from..];
-    let end = least(as_size(lists[start]), behind.len());
-    &behind[0..end]
+    array.copy_from_slice(&list.numbers);
+    Ok(())
 }
 
-// The number at a place of a list, or 0 past its end.
-pub fn number(lists: &[u32], start: usize, place: usize) -> u32 {
-    let all = numbers(lists, start);
-    if place < all.len() { all[place] } else { 0 }
-}
+#[cfg(test)]
+mod tests {
+    use super::*;
+    use std::test::Fail;
 
-// How many numbers a list has, by its part of the array.
-pub fn size_of(part: &[u32]) -> u32 {
-    if part.len() == 0 {
-        return 0;
+    #[test]
+    fn sets_what_a_line_says(rt: HostRuntime) -> Result<(), Fail> {
+        let mut list: List<u32, 8> = List::new(rt.alloc());
+        assert!(rt; list.set(b" 05 2*7  2*(3 4+) 9+").is_ok());
+        assert_eq!(rt;
+            list.numbers.as_slice(),
+            [5, 7, 7, 3, 4, 3, 5, 9].as_slice()
+        );
+        assert!(rt; list.set(b" 4294967295+ 0*(6 x) 7*0").is_ok());
+        assert_eq!(rt;
+            list.numbers.as_slice(),
+            [4294967295, 0, 0, 0, 0, 0, 0, 0].as_slice()
+        );
+        assert!(rt; matches!(list.set(b" 9*1"), Err(ListError::Malformed)));
+        assert!(rt; list.numbers.is_empty());
+        Ok(())
     }
-    part[0]
-}
 
-// Says how many numbers a list has.
-pub fn set_size(part: &mut [u32], size: u32) {
-    if part.len() > 0 {
-        part[0] = size;
+    #[test]
+    fn sets_bytes_and_arrays(rt: HostRuntime) -> Result<(), Fail> {
+        let mut strip: List<u8, 2> = List::new(rt.alloc());
+        assert!(rt; strip.set(b" 255 0").is_ok());
+        assert_eq!(rt; strip.numbers.as_slice(), [255, 0].as_slice());
+        assert!(rt; matches!(strip.set(b" 256"), Err(ListError::Malformed)));
+        let mut array = [7; 3];
+        assert!(rt; set_array(rt.alloc(), &mut array, b" 3*(1+)").is_ok());
+        assert_eq!(rt; array, [1, 2, 3]);
+        assert!(rt;
+            matches!(
+                set_array(rt.alloc(), &mut array, b" 1 2"),
+                Err(ListError::Malformed)
+            )
+        );
+        assert_eq!(rt; array, [0, 0, 0]);
+        Ok(())
     }
-}
-
-// Adds a number at a list's end, and answers whether there is room for it.
-pub fn append(part: &mut [u32], number: u32) -> bool {
-    let size = size_of(part);
-    let end = as_size(size) + 1;
-    if end >= part.len() {
-        return false;
-    }
-    part[end] = number;
-    part[0] = std::num::wrapping_add_u32(size, 1);
-    true
-}
-
-// Copies numbers to the start of another list, as far as there is room, and answers how many it copied.
-pub fn copy(numbers: &[u32], target: &mut [u32]) -> usize
-    ensures { result ≤ length target.new }
-{
-    let end = least(numbers.len(), target.len());
-    let mut place = 0;
-    while place < end {
-        target[place] = numbers[place];
-        place += 1;
-    }
-    place
-}
-
-// A number of a list of bytes as a byte: none is above 255 there.
-fn narrow(number: u32) -> u8 {
-    if number < 256 { number as u8 } else { 255 }
-}
-
-// Copies the numbers of a list of bytes as bytes, as far as there is room, and answers how many it copied.
-pub fn copy_bytes(numbers: &[u32], target: &mut [u8]) -> usize
-    ensures { result ≤ length target.new }
-{
-    let end = least(numbers.len(), target.len());
-    let mut place = 0;
-    while place < end {
-        target[place] = narrow(numbers[place]);
-        place += 1;
-    }
-    place
 }

@@ -1,98 +1,56 @@
-// Writes numbers, lists in short form, and what is said of a malformed line.
-ghost use Rattle.std.specs.Prelude.{◌<◌, ◌≤◌, length};
+// Writes lists in short form.
+use std::fmt;
 
-// A number of a list, as the sums take it.
-fn wide(number: u32) -> u64 {
-    number as u64
-}
-
-// Writes a space and a number.
-pub fn write_number(number: u32) {
-    io::write_all(1, b" ");
-    io::print_decimal(1, number as u64);
-}
-
-// The place after the run of equal numbers that begins at a place.
-fn run_end(numbers: &[u32], from: usize) -> usize
-    requires { from < length numbers.now }
-    ensures lower_bound { from < result }
-    ensures upper_bound { result ≤ length numbers.now }
-{
-    let mut at = from + 1;
-    while at < numbers.len() {
-        if numbers[at] != numbers[from] {
-            return at;
-        }
-        at += 1;
-    }
-    at
-}
-
-// Writes a number, and before it how often it stands if it is more than once.
-fn write_run(times: usize, number: u32) {
-    io::write_all(1, b" ");
-    if times > 1 {
-        io::print_decimal(1, times as u64);
-        io::write_all(1, b"*");
-    }
-    io::print_decimal(1, number as u64);
-}
-
-// Writes a list, each run of equal numbers once.
-fn write_runs(numbers: &[u32]) {
-    let mut at = 0;
-    while at < numbers.len() {
-        let end = run_end(numbers, at);
-        write_run(end - at, numbers[at]);
-        at = end;
-    }
-}
-
-// The sum of a list's numbers, and the sum of the sums on the way. The lists of these programs are too short for either to
-// wrap, which nothing proves: they wrap all the same if ever one isn't.
+/// A list as it is written: a space before each word, and each run of equal numbers once.
 #[derive(Clone, Copy)]
-struct Sums {
-    sum: u64,
-    sums: u64,
-}
+pub struct Listed<'a>(pub &'a [u32]);
 
-fn sums_of(numbers: &[u32]) -> Sums {
-    let mut sum = 0;
-    let mut sums = 0;
-    let mut at = 0;
-    while at < numbers.len() {
-        sum = std::num::wrapping_add_u64(sum, wide(numbers[at]));
-        sums = std::num::wrapping_add_u64(sums, sum);
-        at += 1;
-    }
-    Sums { sum, sums }
-}
-
-// Writes of a long list its length and sums, which depend on each number and its place.
-fn write_sums(numbers: &[u32]) {
-    let found = sums_of(numbers);
-    io::write_all(1, b" ");
-    io::print_decimal(1, numbers.len() as u64);
-    io::write_all(1, b" numbers, sum ");
-    io::print_decimal(1, found.sum);
-    io::write_all(1, b", sums ");
-    io::print_decimal(1, found.sums);
-}
-
-// Writes a list: in full up to 64 numbers.
-pub fn write_list(numbers: &[u32]) {
-    if numbers.len() == 0 {
-        io::write_all(1, b" none");
-    } else if numbers.len() > 64 {
-        write_sums(numbers);
-    } else {
-        write_runs(numbers);
+/// Writes a run of equal numbers, and before the number how often it stands if that is more than once.
+fn write_run<W: fmt::Write>(f: &mut fmt::Formatter<W>, run: &[u32]) -> fmt::Result {
+    match run {
+        [] => Ok(()),
+        [number] => write!(f, " {number}"),
+        [number, ..] => write!(f, " {}*{number}", run.len()),
     }
 }
 
-// Says of a line that it is malformed.
-pub fn write_malformed(line: &[u8]) {
-    io::write_all(1, b"malformed: ");
-    io::write_all(1, line);
-    io::write_all(1, b"\n");
+/// Writes of a long list its length, the sum of its numbers, and the sum of the sums on the way, which depends on each
+/// number and its place. The lists of these programs are too short for either sum to wrap.
+fn write_sums<W: fmt::Write>(f: &mut fmt::Formatter<W>, numbers: &[u32]) -> fmt::Result {
+    let (sum, sums) = numbers.iter().fold((0u64, 0u64), |(sum, sums), number| {
+        let sum = sum.wrapping_add(u64::from(*number));
+        (sum, sums.wrapping_add(sum))
+    });
+    write!(f, " {} numbers, sum {sum}, sums {sums}", numbers.len())
+}
+
+impl fmt::Display for Listed<'_> {
+    fn fmt<W: fmt::Write>(&self, f: &mut fmt::Formatter<W>) -> fmt::Result {
+        if self.0.is_empty() {
+            return f.write_str(" none");
+        }
+        if self.0.len() > 64 {
+            return write_sums(f, self.0);
+        }
+        for run in self.0.chunk_by(|a, b| a == b) {
+            write_run(f, run)?;
+        }
+        Ok(())
+    }
+}
+
+#[cfg(test)]
+mod tests {
+    use super::*;
+    use std::test::Fail;
+
+    #[test]
+    fn writes_short_and_long_lists(rt: HostRuntime) -> Result<(), Fail> {
+        let alloc = rt.alloc();
+        let short = format!(in alloc; "{}{}", Listed(&[]), Listed(&[3, 3, 0, 3]))?;
+        assert_eq!(rt; short.as_str(), " none 2*3 0 3");
+        let long = format!(in alloc; "{}{}", Listed(&[2; 64]), Listed(&[2; 65]))?;
+        assert_eq!(rt; long.as_str(), " 64*2 65 numbers, sum 130, sums 4290");
+        Ok(())
+    }
 }

@@ -3,174 +3,160 @@
 // and publish the record list too. What the input may say, and how lists are written, stands in crate `case_text`.
 #![tactic(auto)]
 
-use case_text::{lists, reading, writing};
+use case_text::cases::Cases;
+use case_text::lists::{List, ListError};
+use case_text::writing::Listed;
+use case_text::{cases, lists};
 use rules::{Done, Head};
+use std::alloc::Global;
+use std::io::{self, Write};
 
-// Where the lists begin in the array of 18,000 numbers that holds them all: the head's three numbers, what a count asks for (binding,
-// key), and the five lists that are lent to the calls.
-const HEAD: usize = 0;
+/// A posting call.
+#[derive(Clone, Copy, PartialEq, Eq)]
+enum Call {
+    Prepare,
+    Publish,
+    Rollback,
+    Removal,
+    Count,
+}
 
-const ASK: usize = 4;
+/// The lists: the head's numbers as they stand in `Head`, what a count asks for (binding, key), and the five lists that are
+/// lent to the calls. Each has room for somewhat more than the rules allow, so that the cases can go beyond them.
+#[derive(Drop)]
+struct Lists {
+    head: [u32; 3],
+    ask: [u32; 2],
+    changes: List<u32, 1600>,
+    guards: List<u32, 2100>,
+    strip: List<u8, 1100>,
+    record: List<u32, 300>,
+    table: List<u32, 12300>,
+}
 
-const CHANGES: usize = 10;
+impl Lists {
+    fn new(alloc: Global) -> Self {
+        Lists {
+            head: [0; 3],
+            ask: [0; 2],
+            changes: List::new(alloc),
+            guards: List::new(alloc),
+            strip: List::new(alloc),
+            record: List::new(alloc),
+            table: List::new(alloc),
+        }
+    }
 
-const GUARDS: usize = 1700;
+    /// The head that the lists say.
+    fn head(&self) -> Head {
+        let [bindings, used, poisoned] = self.head;
+        Head {
+            bindings,
+            used,
+            poisoned,
+        }
+    }
 
-const STRIP: usize = 3900;
+    /// A count of what the lists ask for, as a call that leaves the head as it was.
+    fn counted(&self, table: &[u32]) -> Done {
+        let head = self.head();
+        let [binding, key] = self.ask;
+        let answer = publish::count(head, table, binding, key);
+        Done { head, answer }
+    }
 
-const RECORD: usize = 5100;
-
-const TABLE: usize = 5500;
-
-// The posting calls, by their places among the words that a line can begin with.
-const PREPARE: usize = 7;
-
-const PUBLISH: usize = 8;
-
-const ROLLBACK: usize = 9;
-
-const REMOVAL: usize = 10;
-
-const COUNT: usize = 11;
-
-// Writes the record list after the calls that may write it.
-fn write_record(call: usize, record: &[u32]) {
-    if call <= PUBLISH {
-        io::write_all(1, b"; record");
-        writing::write_list(record);
+    /// Runs a call on a table and a record list, with all else from the lists.
+    fn run_on(&self, call: Call, table: &mut [u32], record: &mut [u32]) -> Done {
+        let head = self.head();
+        let (changes, guards, strip) = (
+            &self.changes.numbers,
+            &self.guards.numbers,
+            &self.strip.numbers,
+        );
+        match call {
+            Call::Prepare => publish::prepare_index_destinations(
+                head, table, changes, guards, strip, record,
+            ),
+            Call::Publish => publish::publish(head, table, changes, guards, strip, record),
+            Call::Rollback => publish::rollback_index_destinations(
+                head, table, changes, guards, strip, record,
+            ),
+            Call::Removal => publish::remove_index_sources(head, table, changes, guards, strip),
+            Call::Count => self.counted(table),
+        }
     }
 }
 
-// Writes what a call left in the table and its head. A count leaves all as it was.
-fn write_state(call: usize, head: Head, table: &[u32]) {
-    if call == COUNT {
-        return;
+/// Writes the answer, and what it names: answer 7 names two changes.
+fn write_answer<W: Write>(out: &mut W, done: Done) -> io::Result<()> {
+    let told = rules::Told::from(done.answer);
+    write!(out, ": answer {} names {}", told.answer, told.named)?;
+    if let Err(rules::Failure::Twice(_, later)) = done.answer {
+        write!(out, " {}", later)?;
     }
-    io::write_all(1, b"; head");
-    writing::write_number(head.bindings);
-    writing::write_number(head.used);
-    writing::write_number(head.poisoned);
-    io::write_all(1, b"; table");
-    writing::write_list(table);
+    Ok(())
 }
 
-// Writes the answer, and what it names: answer 7 names two changes.
-fn write_answer(done: Done) {
-    let answer = done.answer;
-    let told = answers::tell(answer);
-    io::write_all(1, b": answer");
-    writing::write_number(told.answer);
-    io::write_all(1, b" names");
-    writing::write_number(told.named);
-    if told.answer == 7 {
-        writing::write_number(told.other);
+/// Writes what a call left in the head, the table and the record list. A count leaves all as it was, and two calls the
+/// record.
+fn write_state<W: Write>(
+    out: &mut W,
+    call: Call,
+    head: Head,
+    table: &[u32],
+    record: &[u32],
+) -> io::Result<()> {
+    if call == Call::Count {
+        return Ok(());
     }
-}
-
-// The head that the lists say.
-fn head_of(lists: &[u32]) -> Head {
-    Head {
-        bindings: lists::number(lists, HEAD, 0),
-        used: lists::number(lists, HEAD, 1),
-        poisoned: lists::number(lists, HEAD, 2),
+    write!(
+        out,
+        "; head {} {} {}",
+        head.bindings, head.used, head.poisoned
+    )?;
+    write!(out, "; table{}", Listed(table))?;
+    if matches!(call, Call::Prepare | Call::Publish) {
+        write!(out, "; record{}", Listed(record))?;
     }
+    Ok(())
 }
 
-// A count of what the lists ask for, as a call that leaves the head as it was.
-fn counted(lists: &[u32], head: Head, table: &[u32]) -> Done {
-    let binding = lists::number(lists, ASK, 0);
-    let key = lists::number(lists, ASK, 1);
-    let answer = publish::count(head, table, binding, key);
-    Done { head, answer }
-}
+impl Cases for Lists {
+    type Call = Call;
 
-// Runs a call with the head, the changes and the guards of the lists.
-fn run_with(
-    call: usize,
-    lists: &[u32],
-    table: &mut [u32],
-    strip: &[u8],
-    record: &mut [u32],
-) -> Done {
-    let head = head_of(lists);
-    let changes = lists::numbers(lists, CHANGES);
-    let guards = lists::numbers(lists, GUARDS);
-    if call == PREPARE {
-        return publish::prepare_index_destinations(head, table, changes, guards, strip, record);
+    fn call(name: &[u8]) -> Option<Call> {
+        match name {
+            b"prepare" => Some(Call::Prepare),
+            b"publish" => Some(Call::Publish),
+            b"rollback" => Some(Call::Rollback),
+            b"removal" => Some(Call::Removal),
+            b"count" => Some(Call::Count),
+            _ => None,
+        }
     }
-    if call == ROLLBACK {
-        return publish::rollback_index_destinations(head, table, changes, guards, strip, record);
+
+    fn set(&mut self, alloc: Global, name: &[u8], items: &[u8]) -> Result<(), ListError> {
+        match name {
+            b"head" => lists::set_array(alloc, &mut self.head, items),
+            b"ask" => lists::set_array(alloc, &mut self.ask, items),
+            b"changes" => self.changes.set(items),
+            b"guards" => self.guards.set(items),
+            b"strip" => self.strip.set(items),
+            b"record" => self.record.set(items),
+            b"table" => self.table.set(items),
+            _ => Err(ListError::Malformed),
+        }
     }
-    if call == REMOVAL {
-        return publish::remove_index_sources(head, table, changes, guards, strip);
-    }
-    if call == PUBLISH {
-        return publish::publish(head, table, changes, guards, strip, record);
-    }
-    counted(lists, head, table)
-}
 
-// Runs a call on a table and a record list, with all else from the lists.
-fn run(call: usize, lists: &[u32], table: &mut [u32], record: &mut [u32]) -> Done {
-    let mut strip = [0u8; 1100];
-    let size = lists::copy_bytes(lists::numbers(lists, STRIP), &mut strip);
-    let all = &strip[..];
-    run_with(call, lists, table, &all[0..size], record)
-}
-
-// Runs a case on a table and a record list, and writes what comes of it.
-fn run_on(call: usize, lists: &[u32], table: &mut [u32], record: &mut [u32]) {
-    let done = run(call, lists, table, record);
-    write_answer(done);
-    write_state(call, done.head, table);
-    write_record(call, record);
-    io::write_all(1, b"\n");
-}
-
-// Runs a case on a table and a copy of the record list.
-fn run_recorded(call: usize, lists: &[u32], table: &mut [u32]) {
-    let mut record = [0u32; 300];
-    let size = lists::copy(lists::numbers(lists, RECORD), &mut record);
-    let all = &mut record[..];
-    run_on(call, lists, table, &mut all[0..size]);
-}
-
-// Runs the case of a line on copies of the lists, so that the next one finds them as they were set.
-fn run_case(line: &[u8], call: usize, lists: &[u32]) {
-    let mut table = [0u32; 12300];
-    let size = lists::copy(lists::numbers(lists, TABLE), &mut table);
-    let all = &mut table[..];
-    io::write_all(1, line);
-    run_recorded(call, lists, &mut all[0..size]);
-}
-
-// Does what one line says. Of each list stands here where it begins, and how many numbers it can have: somewhat more than the rules
-// allow, so that the cases can go beyond them. Each leaves the list before it its room.
-fn run_line(line: &[u8], lists: &mut [u32]) {
-    let said = [
-        0u32, 3, 4, 2, 10, 1600, 1700, 2100, 3900, 1100, 5100, 300, 5500, 12300,
-    ];
-    let words =
-        b"head ask changes guards strip record table prepare publish rollback removal count";
-    let call = reading::run_line(line, lists, &said, words);
-    if call <= COUNT {
-        run_case(line, call, lists);
+    fn run<W: Write>(&self, call: Call, out: &mut W) -> io::Result<()> {
+        let mut table = self.table.numbers.clone()?;
+        let mut record = self.record.numbers.clone()?;
+        let done = self.run_on(call, &mut table, &mut record);
+        write_answer(out, done)?;
+        write_state(out, call, done.head, &table, &record)
     }
 }
 
-// Does what each line of the input says, up the lines.
-fn run_lines(text: &[u8], lists: &mut [u32]) {
-    let mut at = 0;
-    while at < text.len() {
-        let end = reading::find(text, at, b'\n');
-        run_line(&text[at..end], lists);
-        at = end + 1;
-    }
-}
-
-fn main() {
-    let mut text = io::large_buffer();
-    let size = io::read_full(0, &mut text);
-    let mut lists = [0u32; 18000];
-    run_lines(&text[..size], &mut lists);
+fn main(rt: HostRuntime) -> io::Result<()> {
+    cases::run(&rt, &mut Lists::new(rt.alloc()))
 }

@@ -1,4 +1,5 @@
 -- A change list turn by turn: its length, the change at a place, what a loop that has reached a place still has before it, and what it has behind it.
+use Rattle.std.proofs.Common.{Option, Some, None}
 use Prim.Native.Nat.{ℕ, zero, suc, ◌+◌, ◌*◌, ◌/◌, ◌<◌, ◌≤◌}
 use native.Mathlib.Numerals.{add-one}
 use native.Mathlib.Omega.{arith}
@@ -6,7 +7,6 @@ use mathlib.Core.Path.{◌≡◌, refl, sym, ◌∙◌}
 use mathlib.Core.List.{List, [], ◌∷◌, ◌++◌}
 use lib.ListN.{length, take, drop, get_or, drop_of_length-le}
 use lib.Seq.{take-suc, length-take-le, get_or-drop}
-use Rattle.rules.specs.declared.Key.{Key}
 use Rattle.rules.specs.declared.Change.{Change}
 use Rattle.rules.specs.Orders.{Numbered, key_of, changes, destination_of, source_of, named, destinations_from, sources_from, destinations, no_change}
 use Rattle.laws.proofs.Left.{item_left}
@@ -76,9 +76,9 @@ sources_none cs i h = rw (drop_of_length-le cs h)
 
 -- what a change names, before others and before more
 pub named_append :
-    (n : ℕ) (c : Change) (k : Key) (ds es : List Numbered) → named n c k ds ++ es ≡ named n c k (ds ++ es)
-named_append n c Key.Missing ds es = refl
-named_append n c (Key.Named key) ds es = refl
+    (n : ℕ) (c : Change) (k : Option ℕ) (ds es : List Numbered) → named n c k ds ++ es ≡ named n c k (ds ++ es)
+named_append n c None ds es = refl
+named_append n c (Some key) ds es = refl
 
 -- one more change at the end
 pub destinations_last :

@@ -1,4 +1,5 @@
 -- The guards looked at before (answer 6): what is then known of them tells the first change that is not guarded.
+use Rattle.std.proofs.Common.{Ok}
 use Prim.Native.Nat.{ℕ, ◌+◌, ◌<◌, ◌≤◌}
 use native.Mathlib.Omega.{arith}
 use mathlib.Core.Path.{◌≡◌, refl}
@@ -9,24 +10,23 @@ use lib.Dec.{eqb, ltb}
 use borrow.Author.Tests.{eq-eqb, ne_eqb}
 use Rattle.rules.specs.declared.Change.{Change}
 use Rattle.rules.specs.declared.Guard.{Guard}
-use Rattle.rules.specs.declared.Answer.{Answer}
-use Rattle.rules.specs.declared.Verdict.{Verdict}
+use Rattle.rules.specs.declared.Failure.{Failure}
 use Rattle.rules.specs.Orders.{no_change}
 use Rattle.rules.specs.Checks.{must, or_else, first_failing, key_held, guarded}
 use Rattle.laws.proofs.Left.{item_left}
 use Rattle.checks.specs.Guarding.{keys_held, first_unheld, bindings_from}
 
 module _ (bindings unheld : ℕ) (cs : List Change) (i : ℕ) where
-  -- c was read at place i
+  -- change i, and those after it
   pub bindings_left :
-      (c : Change) (b : Bool) → i < length cs → c ≡ get_or cs i no_change →
-      (not (eqb i unheld) && ltb c.binding bindings) ≡ b →
+      i < length cs →
       bindings_from bindings unheld i (drop i cs) ≡
-      or_else (must b (Answer.Guard i)) (bindings_from bindings unheld (i + 1) (drop (i + 1) cs))
+      or_else (must (not (eqb i unheld) && ltb (get_or cs i no_change).binding bindings) (Failure.Guard i))
+      (bindings_from bindings unheld (i + 1) (drop (i + 1) cs))
   unfolding bindings_from
-  bindings_left c b h r e = rw (item_left no_change cs i h, ← r, e)
+  bindings_left h = rw (item_left no_change cs i h)
 
-  pub bindings_none : length cs ≤ i → bindings_from bindings unheld i (drop i cs) ≡ Verdict.Passes
+  pub bindings_none : length cs ≤ i → bindings_from bindings unheld i (drop i cs) ≡ Ok tt
   unfolding bindings_from
   bindings_none h = rw (drop_of_length-le cs h)
 
@@ -42,7 +42,7 @@ not_before gs i (c ∷ cs) = go (keys_held gs c) (not_before gs (i + 1) cs)
 -- the first change that is not guarded is the first unheld one, or one before it whose binding is not below the count
 pub unheld_known :
     (bindings : ℕ) (gs : List Guard) (i : ℕ) (cs : List Change) →
-    bindings_from bindings (first_unheld gs i cs) i cs ≡ first_failing (guarded bindings gs) (λ i change. Answer.Guard i) i cs
+    bindings_from bindings (first_unheld gs i cs) i cs ≡ first_failing (guarded bindings gs) (λ i change. Failure.Guard i) i cs
 unfolding bindings_from first_unheld first_failing guarded
 unheld_known bindings gs i [] = refl
 unheld_known bindings gs i (c ∷ cs) =
@@ -54,12 +54,18 @@ unheld_known bindings gs i (c ∷ cs) =
 
     go :
         (b : Bool) → (Below && key_held c.binding c.before gs && key_held c.binding c.after gs) ≡ (Below && b) →
-        bindings_from bindings (first_unheld gs (i + 1) cs) (i + 1) cs ≡ first_failing (guarded bindings gs) (λ i change. Answer.Guard i) (i + 1) cs →
-        or_else (must (not (eqb i (cond b (first_unheld gs (i + 1) cs) i)) && Below) (Answer.Guard i))
+        bindings_from bindings (first_unheld gs (i + 1) cs) (i + 1) cs ≡ first_failing (guarded bindings gs) (λ i change. Failure.Guard i) (i + 1) cs →
+        or_else (must (not (eqb i (cond b (first_unheld gs (i + 1) cs) i)) && Below) (Failure.Guard i))
         (bindings_from bindings (cond b (first_unheld gs (i + 1) cs) i) (i + 1) cs) ≡
-        or_else (must (Below && key_held c.binding c.before gs && key_held c.binding c.after gs) (Answer.Guard i))
-        (first_failing (guarded bindings gs) (λ i change. Answer.Guard i) (i + 1) cs)
+        or_else (must (Below && key_held c.binding c.before gs && key_held c.binding c.after gs) (Failure.Guard i))
+        (first_failing (guarded bindings gs) (λ i change. Failure.Guard i) (i + 1) cs)
     go true e ih =
         let later : i ≡ first_unheld gs (i + 1) cs → ⊥ = λ s. let n = not_before gs (i + 1) cs in omega arith in
         rw (ne_eqb i (first_unheld gs (i + 1) cs) later, e, ih, and-true Below)
     go false e ih = rw (eq-eqb i i refl, e, and-false)
+
+-- its binding, and then its keys
+pub guarded_parts :
+    (bindings : ℕ) (gs : List Guard) (c : Change) → guarded bindings gs c ≡ (ltb c.binding bindings && keys_held gs c)
+unfolding guarded
+guarded_parts bindings gs c = and_assoc (ltb c.binding bindings) (key_held c.binding c.before gs) (key_held c.binding c.after gs)

@@ -1,40 +1,26 @@
 -- Answer 3: the limits of lent lists, and what must hold of each change from a place on.
-use Prim.Native.Nat.{ℕ, ◌+◌, ◌/◌, ◌%◌, ◌<◌, ◌≤◌}
-use native.Mathlib.Omega.{arith}
-use mathlib.Core.Path.{◌≡◌, refl, ◌∙◌}
-use mathlib.Core.List.{List, [], ◌∷◌}
-use mathlib.Core.Bool.{Bool, true, false, ◌&&◌, and-true, and-false}
-use lib.ListN.{length, drop, get_or, length-drop, drop_of_length-le}
-use lib.Seq.{get_or-drop, drop-drop}
-use lib.Dec.{leb}
-use borrow.Author.Tests.{le-leb, lt-leb, eq-eqb, ne_eqb}
-use Rattle.rules.specs.Limits.{most_changes, most_guards}
-use Rattle.rules.specs.Orders.{proper_key, changes, proper_changes, proper_guards, proper_lists}
-use Rattle.checks.specs.Keys.{proper_at}
-use Rattle.checks.proofs.Guards.{guards_length}
+use Rattle.std.proofs.Common.{ℕ, suc, ◌/◌, ◌%◌, ◌<◌, ◌≤◌, ◌≡◌, refl, ap, arith, List, [], ◌∷◌, Bool, true, false, ◌&&◌, length, leb}
+use mathlib.Core.Bool.{and-true, and-false}
+use borrow.Author.Tests.{le-leb, lt-leb}
+use Rattle.std.specs.List.{list_all}
+use Rattle.std.specs.Simd.{first_chunks}
+use Rattle.rules.specs.Limits.{most_changes}
+use Rattle.rules.specs.Orders.{proper_key, changes, proper_changes, proper_lists}
+use Rattle.checks.specs.Keys.{proper_keys}
 
-proper_front :
-    (l : List ℕ) → 6 ≤ length l →
-    proper_changes l ≡ (proper_key (get_or l 2 0) (get_or l 3 0) && proper_key (get_or l 4 0) (get_or l 5 0) && proper_changes (drop 6 l))
+-- whole changes, six numbers by six
+pub proper_by_chunks :
+    (l : List ℕ) → length l % 6 ≡ 0 → list_all proper_keys (first_chunks 6 (length l / 6) l) ≡ proper_changes l
 unfolding proper_changes
-proper_front [] h = absurd (omega arith)
-proper_front (a ∷ []) h = absurd (omega arith)
-proper_front (a ∷ b ∷ []) h = absurd (omega arith)
-proper_front (a ∷ b ∷ c ∷ []) h = absurd (omega arith)
-proper_front (a ∷ b ∷ c ∷ d ∷ []) h = absurd (omega arith)
-proper_front (a ∷ b ∷ c ∷ d ∷ e ∷ []) h = absurd (omega arith)
-proper_front (a ∷ b ∷ c ∷ d ∷ e ∷ f ∷ rest) h = refl
-
-pub proper_left :
-    (l : List ℕ) (first : ℕ) (b : Bool) → first + 6 ≤ length l → proper_at l first ≡ b →
-    proper_changes (drop first l) ≡ (b && proper_changes (drop (first + 6) l))
-proper_left l first b h e =
-    let n : 6 ≤ length (drop first l) = rw (length-drop first l) (omega arith) in
-    proper_front (drop first l) n ∙ simp (get_or-drop, drop-drop, e)
-
-pub proper_none : (l : List ℕ) (first : ℕ) → length l ≤ first → proper_changes (drop first l) ≡ true
-unfolding proper_changes
-proper_none l first h = rw (drop_of_length-le l h)
+proper_by_chunks [] h = refl
+proper_by_chunks (a ∷ []) h = absurd (omega arith)
+proper_by_chunks (a ∷ b ∷ []) h = absurd (omega arith)
+proper_by_chunks (a ∷ b ∷ c ∷ []) h = absurd (omega arith)
+proper_by_chunks (a ∷ b ∷ c ∷ d ∷ []) h = absurd (omega arith)
+proper_by_chunks (a ∷ b ∷ c ∷ d ∷ e ∷ []) h = absurd (omega arith)
+proper_by_chunks (a ∷ b ∷ c ∷ d ∷ e ∷ f ∷ rest) h =
+    let n : suc (suc (suc (suc (suc (suc (length rest)))))) / 6 ≡ suc (length rest / 6) = omega arith in
+    rw n (ap (λ v. (proper_key c d && proper_key e f) && v) (proper_by_chunks rest (omega arith)))
 
 -- a length that is no multiple of 6
 pub proper_not : (l : List ℕ) → (length l % 6 ≡ 0 → ⊥) → proper_changes l ≡ false
@@ -47,14 +33,6 @@ proper_not (a ∷ b ∷ c ∷ d ∷ []) h = refl
 proper_not (a ∷ b ∷ c ∷ d ∷ e ∷ []) h = refl
 proper_not (a ∷ b ∷ c ∷ d ∷ e ∷ f ∷ rest) h =
     rw (proper_not rest (λ k. h (omega arith))) (and-false (proper_key c d && proper_key e f))
-
-pub guards_odd : (gs : List ℕ) → (length gs % 2 ≡ 0 → ⊥) → proper_guards gs ≡ false
-unfolding proper_guards
-guards_odd gs h = rw (ne_eqb (length gs % 2) 0 h)
-
-pub guards_even : (gs : List ℕ) → length gs % 2 ≡ 0 → proper_guards gs ≡ leb (length gs / 2) most_guards
-unfolding proper_guards
-guards_even gs e = rw (eq-eqb (length gs % 2) 0 e, guards_length gs)
 
 module _ (cs : List ℕ) where
   pub lists_over : (paired : Bool) → most_changes < length (changes cs) → proper_lists cs paired ≡ false

@@ -1,15 +1,14 @@
 -- A change seen by its keys: what each walk asks of it.
-use Rattle.std.specs.Prelude.{List, Bool, false}
+use Rattle.std.specs.Prelude.{List, Bool, false, Option, Some, None, ℕ}
 use Rattle.rules.specs.declared.Posting.{Posting}
-use Rattle.rules.specs.declared.Key.{Key}
 use Rattle.rules.specs.declared.Change.{Change}
 use Rattle.rules.specs.Postings.{same, present}
 use Rattle.rules.specs.Orders.{destination_of, source_of}
 
 -- the test of a change's posting under a key; a change with no key has none
-abbrev pub under_key : Change → Key → (Posting → Bool) → Bool
-under_key c Key.Missing test = false
-under_key c (Key.Named key) test = test (record { binding = c.binding; key = key; row = c.row })
+abbrev pub under_key : Change → Option ℕ → (Posting → Bool) → Bool
+under_key c None test = false
+under_key c (Some key) test = test (record { binding = c.binding; key = key; row = c.row })
 
 -- its destination is this posting
 abbrev pub goes_to : Change → Posting → Bool

@@ -1,2 +1,3 @@
 -- What the contracts of `clashes` speak of.
 pub mod Keys
+pub mod Pairs

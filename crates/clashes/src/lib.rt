@@ -1,140 +1,110 @@
 // Whether the postings that an order names clash: two equal destinations, a destination that stands in the table, a source that is
-// a destination; answers 7, 8 and 9. Each looks at the whole list before the next begins. An inner layer, not delivered: the walks
-// ask for a list within its limit, which answer 3 has tested, so that a change number fits a u32.
+// a destination; answers 7, 8 and 9. Each looks at the whole list before the next begins. An inner layer, not delivered.
 #![tactic(auto)]
 
-ghost use Rattle.std.specs.Prelude.{◌<◌, ◌≤◌, ◌≡◌, [], not, length, get_or};
-ghost use Rattle.rules.specs.declared.Answer.{Answer};
-ghost use Rattle.rules.specs.Limits.{most_changes};
+ghost use Rattle.std.specs.Prelude.{◌<◌, ◌≡◌, [], not, length, get_or};
 ghost use Rattle.rules.specs.Postings.{present};
-ghost use Rattle.rules.specs.Table.{postings};
-ghost use Rattle.rules.specs.Orders.{changes, destinations, sources, no_change, Numbered, postings_of};
-ghost use Rattle.rules.specs.Checks.{first_failing, twice_from};
-ghost use Rattle.table.specs.Holding.{Ordered};
+ghost use Rattle.rules.specs.Orders.{changes, destinations, sources, postings_of};
+ghost use Rattle.rules.specs.Checks.{twice_check, present_check, overlap_check};
 ghost use Rattle.clashes.specs.Keys.{goes_to, one_destination, destination_in, source_in};
+ghost use Rattle.clashes.specs.Pairs.{seek};
 
-use changes::{change_at, count_of, destination_of, posting_of, source_of};
-use rules::{Answer, Change, Key, Posting, Verdict};
+use changes::Changes;
+use rules::{Change, Failure, Posting};
+use table::Postings;
 
-// The destination of a change is this posting.
-fn goes_to(list: &[u32], i: usize, p: Posting) -> bool
-    requires { i < length (changes list.now) }
-    ensures { result ≡ goes_to (get_or (changes list.now) i no_change) p }
+// The destination of the change is this posting.
+#[tactic(auto, using(laws::proofs::Ranks::derived_equality))]
+fn goes_to(change: Change, p: Posting) -> bool
+    ensures { result ≡ goes_to change p }
 {
-    let change = change_at(list, i);
-    let Key::Named(key) = destination_of(change) else {
-        return false;
-    };
-    table_postings::equal(posting_of(change, key), p)
+    change.after.is_some_and(|key| change.posting(key) == p)
 }
 
 // Two changes have one destination.
-fn one_destination(list: &[u32], i: usize, j: usize) -> bool
-    requires { (i < length (changes list.now)) × (j < length (changes list.now)) }
-    ensures { result ≡ one_destination (get_or (changes list.now) i no_change)
-        (get_or (changes list.now) j no_change) }
+fn one_destination(earlier: Change, later: Change) -> bool
+    ensures { result ≡ one_destination earlier later }
 {
-    let change = change_at(list, j);
-    let Key::Named(key) = destination_of(change) else {
-        return false;
-    };
-    goes_to(list, i, posting_of(change, key))
+    later
+        .after
+        .is_some_and(|key| goes_to(earlier, later.posting(key)))
 }
 
-// 7 TWICE: the first two equal destinations in order of j, then i.
-pub fn check_twice(list: &[u32]) -> Verdict
-    requires { length (changes list.now) ≤ most_changes }
-    ensures { result ≡ twice_from [] (destinations (changes list.now)) }
+// 7 TWICE: the first two equal destinations in order of the later, then of the earlier.
+#[tactic(auto, using(crate::proofs::Pairs::pairs_all, crate::proofs::Pairs::pairs_left, crate::proofs::Pairs::pairs_none, crate::proofs::Pairs::seek_left, crate::proofs::Pairs::seek_none))]
+pub fn check_twice(list: Changes) -> Result<(), Failure>
+    ensures { result ≡ twice_check (changes list.entry.numbers.now) }
 {
-    let n = count_of(list);
-    let mut i = 0;
-    let mut j = 0;
-    'pairs: while j < n {
-        i = 0;
-        while i < j {
-            if one_destination(list, i, j) {
+    let mut pair = None;
+    'pairs: for later in 0..list.len() {
+        for earlier in 0..later {
+            if one_destination(list.at(earlier), list.at(later)) {
+                pair = Some((earlier, later));
                 break 'pairs;
             }
-            i += 1;
         }
-        j += 1;
     }
-    if j < n {
-        let earlier = i as u32;
-        let later = j as u32;
-        return Verdict::Refused(Answer::Twice(earlier, later));
+    match pair {
+        Some((earlier, later)) => Err(Failure::Twice(earlier as u32, later as u32)),
+        None => Ok(()),
     }
-    Verdict::Passes
 }
 
 // The destination of a change stands in the table.
-fn is_present(table: &[u32], used: usize, change: Change) -> bool
-    requires { Ordered table.now used }
-    ensures { result ≡ destination_in change (postings used table.now) }
+fn is_present(standing: &Postings, change: Change) -> bool
+    ensures { result ≡ destination_in change standing.now }
 {
-    let Key::Named(key) = destination_of(change) else {
-        return false;
-    };
-    table::stands(table, used, posting_of(change, key))
+    match change.after {
+        Some(key) => standing.contains(change.posting(key)),
+        None => false,
+    }
 }
 
 // 8 PRESENT: the first destination that stands in the table.
-pub fn check_present(table: &[u32], used: usize, list: &[u32]) -> Verdict
-    requires { Ordered table.now used × (length (changes list.now) ≤ most_changes) }
-    ensures { result ≡ first_failing
-        (λ (d : Numbered). not (present d.posting (postings used table.now)))
-        (λ i d. Answer.Present d.number) 0 (destinations (changes list.now)) }
+#[tactic(auto, using(crate::proofs::Named::presents_all, crate::proofs::Named::presents_left, crate::proofs::Named::presents_none))]
+pub fn check_present(standing: &Postings, list: Changes) -> Result<(), Failure>
+    ensures { result ≡ present_check standing.now (changes list.entry.numbers.now) }
 {
-    let n = count_of(list);
-    let mut i = 0;
-    while i < n {
-        if is_present(table, used, change_at(list, i)) {
-            return Verdict::Refused(Answer::Present(i as u32));
+    for i in 0..list.len() {
+        if is_present(standing, list.at(i)) {
+            return Err(Failure::Present(i as u32));
         }
-        i += 1;
     }
-    Verdict::Passes
+    Ok(())
 }
 
 // The posting is a destination of the list.
-fn is_destination(list: &[u32], p: Posting) -> bool
-    ensures { result ≡ present p (postings_of (destinations (changes list.now))) }
+#[tactic(auto, using(crate::proofs::Named::present_left, crate::proofs::Named::present_none))]
+fn is_destination(list: Changes, p: Posting) -> bool
+    ensures { result ≡ present p (postings_of (destinations (changes list.entry.numbers.now))) }
 {
-    let n = count_of(list);
-    let mut i = 0;
-    while i < n {
-        if goes_to(list, i, p) {
+    for i in 0..list.len() {
+        if goes_to(list.at(i), p) {
             return true;
         }
-        i += 1;
     }
     false
 }
 
 // The source of a change is a destination of the list.
-fn overlaps(list: &[u32], change: Change) -> bool
-    ensures { result ≡ source_in change (postings_of (destinations (changes list.now))) }
+fn overlaps(list: Changes, change: Change) -> bool
+    ensures { result ≡ source_in change (postings_of (destinations (changes list.entry.numbers.now))) }
 {
-    let Key::Named(key) = source_of(change) else {
-        return false;
-    };
-    is_destination(list, posting_of(change, key))
+    match change.before {
+        Some(key) => is_destination(list, change.posting(key)),
+        None => false,
+    }
 }
 
 // 9 OVERLAP: the first source that is a destination of the list, its own change's or another's.
-pub fn check_overlap(list: &[u32]) -> Verdict
-    requires { length (changes list.now) ≤ most_changes }
-    ensures { result ≡ first_failing
-        (λ (s : Numbered). not (present s.posting (postings_of (destinations (changes list.now)))))
-        (λ i s. Answer.Overlap s.number) 0 (sources (changes list.now)) }
+#[tactic(auto, using(crate::proofs::Named::overlaps_all, crate::proofs::Named::overlaps_left, crate::proofs::Named::overlaps_none))]
+pub fn check_overlap(list: Changes) -> Result<(), Failure>
+    ensures { result ≡ overlap_check (changes list.entry.numbers.now) }
 {
-    let n = count_of(list);
-    let mut i = 0;
-    while i < n {
-        if overlaps(list, change_at(list, i)) {
-            return Verdict::Refused(Answer::Overlap(i as u32));
+    for i in 0..list.len() {
+        if overlaps(list, list.at(i)) {
+            return Err(Failure::Overlap(i as u32));
         }
-        i += 1;
     }
-    Verdict::Passes
+    Ok(())
 }

@@ -7,7 +7,6 @@ ghost use Rattle.std.specs.Prelude.{◌≡◌};
 ghost use Rattle.guarding.specs.Asking.{wanted_held, unheld_place};
 ghost use Rattle.entry.specs.Promises.{PoisonPromise, HeldPromise, EntryPromise};
 
-use guarding::Wanted;
 use rules::{Answer, Guard, Head};
 
 // Sets the poison flag in place: counts of these indexes are withheld from now on.
@@ -21,24 +20,14 @@ pub fn poison_indexes(head: &mut Head)
 pub fn held(guards: &[Guard], binding: u32, key: u32) -> bool
     ensures { HeldPromise guards.now binding key result }
 {
-    let mut i = 0;
-    while i < guards.len() {
-        if guarding::is_guard(guards[i], binding, key) {
-            return true;
-        }
-        i += 1;
-    }
-    false
+    guards.contains(&Guard { binding, key })
 }
 
-// A named key is held; none need not be.
-fn key_held(guards: &[Guard], wanted: Wanted) -> bool
+// A guard that is asked for is held; none need not be.
+fn is_held(guards: &[Guard], wanted: Option<Guard>) -> bool
     ensures { result ≡ wanted_held guards.now wanted }
 {
-    if wanted.named {
-        return held(guards, wanted.binding, wanted.key);
-    }
-    true
+    wanted.is_none_or(|guard| held(guards, guard.binding, guard.key))
 }
 
 // The first place, two to a change, whose key is named and not held; or how many places there are. Where the poison flag is set
@@ -46,17 +35,16 @@ fn key_held(guards: &[Guard], wanted: Wanted) -> bool
 fn first_unheld(poisoned: u32, guards: &[Guard], list: &[u32]) -> usize
     ensures { result ≡ unheld_place poisoned guards.now list.now }
 {
-    let n = guarding::keys_asked(poisoned, list, guards.len());
-    let mut place = 0;
-    while place < n {
-        let wanted = guarding::wanted_at(list, place);
-        if key_held(guards, wanted) {
-            place += 1;
-        } else {
+    let Some(list) = guarding::changes_asked(poisoned, list, guards.len()) else {
+        return 0;
+    };
+    let places = list.len() * 2;
+    for place in 0..places {
+        if !is_held(guards, guarding::wanted_at(list.numbers, place)) {
             return place;
         }
     }
-    n
+    places
 }
 
 // Publish: the head is stored in place as a whole, and where a removal failed the poison flag is set there.

@@ -8,13 +8,12 @@ ghost use Rattle.bucket_rules.specs.Answers.{told_of};
 ghost use Rattle.exports_buckets.specs.Promises.{three_numbers, SortPromise, BitmapPromise, PrecedesPromise};
 
 use rules::Told;
-use yes_or_no::number_of;
 
-// The numbers of a bucket call's answer. No such answer names a second number.
+// The numbers of a bucket call's answer. No such answer names a second number. A function and no `From`: both types are of crates below.
 fn bucket_numbers(answer: bucket_rules::Answer) -> Told
     ensures { result ≡ three_numbers (told_of answer) }
 {
-    let numbers = buckets::tell(answer);
+    let numbers = bucket_rules::Told::from(answer);
     Told {
         answer: numbers.answer,
         named: numbers.named,
@@ -55,5 +54,5 @@ pub extern "C" fn asdrifen_canonical_buckets_bitmap(
 pub extern "C" fn asdrifen_stamp_precedes_snapshot(stamp: u64, snapshot: u64) -> u32
     ensures { PrecedesPromise stamp snapshot result }
 {
-    number_of(buckets::stamp_precedes_snapshot(stamp, snapshot))
+    u32::from(buckets::stamp_precedes_snapshot(stamp, snapshot))
 }

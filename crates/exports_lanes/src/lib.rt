@@ -7,7 +7,7 @@ ghost use Rattle.std.specs.Prelude.{◌≡◌};
 ghost use Rattle.lanes.specs.Promises.{seen};
 ghost use Rattle.exports_lanes.specs.Promises.{lane_seen, CachedPromise, RefreshedPromise, DetachPromise};
 
-use lane_rules::View;
+use lane_rules::{Done, Told, View};
 
 // The view that a lane call leaves, the number of its answer, and the value beside it.
 #[repr(C)]
@@ -19,16 +19,16 @@ pub struct Detached {
 }
 
 // The numbers of a lane call's result.
-fn lane_numbers(res: lane_rules::Done) -> Detached
-    ensures { lane_seen result ≡ seen res }
-{
-    let view = res.view;
-    let answer = res.answer;
-    let numbers = lanes::tell(answer);
-    Detached {
-        view,
-        answer: numbers.answer,
-        value: numbers.value,
+impl From<Done> for Detached {
+    ghost from_gives = { λ done detached. lane_seen detached ≡ seen done };
+
+    fn from(done: Done) -> Detached {
+        let told = Told::from(done.answer);
+        Detached {
+            view: done.view,
+            answer: told.answer,
+            value: told.value,
+        }
     }
 }
 
@@ -37,7 +37,7 @@ fn lane_numbers(res: lane_rules::Done) -> Detached
 pub extern "C" fn asdrifen_cached_detach(view: View, contents: &[u32], strip: &[u8]) -> Detached
     ensures { CachedPromise view strip.now result }
 {
-    lane_numbers(lanes::cached_detach(view, contents, strip))
+    Detached::from(lanes::cached_detach(view, contents, strip))
 }
 
 // One pass with a refreshed window, which must hold every attached lane.
@@ -45,7 +45,7 @@ pub extern "C" fn asdrifen_cached_detach(view: View, contents: &[u32], strip: &[
 pub extern "C" fn asdrifen_refreshed_detach(view: View, contents: &[u32], strip: &[u8]) -> Detached
     ensures { RefreshedPromise view strip.now result }
 {
-    lane_numbers(lanes::refreshed_detach(view, contents, strip))
+    Detached::from(lanes::refreshed_detach(view, contents, strip))
 }
 
 // Detaches the node from all its lanes and retires it, in at most so many rounds.
@@ -58,5 +58,5 @@ pub extern "C" fn asdrifen_detach_before_retire(
 ) -> Detached
     ensures { DetachPromise view strip.now rounds result }
 {
-    lane_numbers(lanes::detach_before_retire(view, contents, strip, rounds))
+    Detached::from(lanes::detach_before_retire(view, contents, strip, rounds))
 }

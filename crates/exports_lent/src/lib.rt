@@ -7,7 +7,6 @@ ghost use Rattle.entry.specs.Promises.{PoisonPromise};
 ghost use Rattle.exports_lent.specs.Promises.{LentPublishPromise, HeldPromise};
 
 use rules::{Guard, Head, Told};
-use yes_or_no::number_of;
 
 // Publish with the head set in place and the held guards as a list of guards.
 #[unsafe(no_mangle)]
@@ -22,7 +21,7 @@ pub extern "C" fn asdrifen_publish(
     ensures { LentPublishPromise head.old table.old changes.now guards.now
         strip.now «record».old result head.new table.new «record».new }
 {
-    answers::tell(entry::publish(head, table, changes, guards, strip, record))
+    entry::publish(head, table, changes, guards, strip, record).into()
 }
 
 // Sets the poison flag in place.
@@ -38,5 +37,5 @@ pub extern "C" fn asdrifen_poison_indexes(head: &mut Head)
 pub extern "C" fn asdrifen_held(guards: &[Guard], binding: u32, key: u32) -> u32
     ensures { HeldPromise guards.now binding key result }
 {
-    number_of(entry::held(guards, binding, key))
+    u32::from(entry::held(guards, binding, key))
 }

@@ -4,7 +4,6 @@
 #![tactic(auto)]
 
 ghost use Rattle.std.specs.Prelude.{◌≡◌, []};
-ghost use Rattle.rules.specs.Answers.{told_of};
 ghost use Rattle.rules.specs.Orders.{lending};
 ghost use Rattle.exports_postings.specs.Promises.{PreparePromise, RollbackPromise, RemovalPromise, PublishPromise, CountPromise};
 
@@ -19,14 +18,16 @@ pub struct Done {
 }
 
 // The numbers of a posting call's result.
-fn posting_numbers(res: rules::Done) -> Done
-    ensures { result ≡ record { head = res.head; told = told_of res.answer } }
-{
-    let head = res.head;
-    let answer = res.answer;
-    Done {
-        head,
-        told: answers::tell(answer),
+impl From<rules::Done> for Done {
+    ghost use Rattle.rules.specs.Answers.{told_of};
+
+    ghost from_gives = { λ res done. done ≡ record { head = res.head; told = told_of res.answer } };
+
+    fn from(res: rules::Done) -> Done {
+        Done {
+            head: res.head,
+            told: res.answer.into(),
+        }
     }
 }
 
@@ -44,8 +45,7 @@ pub extern "C" fn asdrifen_publish_by_value(
         (lending changes.now guards.now strip.now «record».old) result
         table.new «record».new }
 {
-    let result = publish::publish(head, table, changes, guards, strip, record);
-    posting_numbers(result)
+    publish::publish(head, table, changes, guards, strip, record).into()
 }
 
 // Puts the destinations of a change list into the table, all of them or none, and writes their change numbers into the record list.
@@ -62,8 +62,7 @@ pub extern "C" fn asdrifen_prepare_index_destinations(
         (lending changes.now guards.now strip.now «record».old) result
         table.new «record».new }
 {
-    let result = publish::prepare_index_destinations(head, table, changes, guards, strip, record);
-    posting_numbers(result)
+    publish::prepare_index_destinations(head, table, changes, guards, strip, record).into()
 }
 
 // Takes the destinations of a record out of the table again.
@@ -80,8 +79,7 @@ pub extern "C" fn asdrifen_rollback_index_destinations(
         (lending changes.now guards.now strip.now «record».now) result
         table.new «record».now }
 {
-    let result = publish::rollback_index_destinations(head, table, changes, guards, strip, record);
-    posting_numbers(result)
+    publish::rollback_index_destinations(head, table, changes, guards, strip, record).into()
 }
 
 // Takes the sources of a change list out of the table.
@@ -96,8 +94,7 @@ pub extern "C" fn asdrifen_remove_index_sources(
     ensures { RemovalPromise head table.old
         (lending changes.now guards.now strip.now []) result table.new [] }
 {
-    let result = publish::remove_index_sources(head, table, changes, guards, strip);
-    posting_numbers(result)
+    publish::remove_index_sources(head, table, changes, guards, strip).into()
 }
 
 // How many postings a binding and key have.
@@ -105,5 +102,5 @@ pub extern "C" fn asdrifen_remove_index_sources(
 pub extern "C" fn asdrifen_count(head: Head, table: &[u32], binding: u32, key: u32) -> Told
     ensures { CountPromise head table.now binding key result }
 {
-    answers::tell(publish::count(head, table, binding, key))
+    publish::count(head, table, binding, key).into()
 }

@@ -1,10 +1,11 @@
 -- The acceptance law, of the calls themselves: each answer is given exactly where its condition holds.
+use Rattle.std.proofs.Common.{Result, ℕ}
 use Prim.Native.Nat.{ℕ}
 use mathlib.Core.Path.{◌≡◌, ap}
 use mathlib.Core.List.{List}
 use mathlib.Core.Bool.{true}
 use mathlib.Core.Logic.{◌↔◌}
-use Rattle.rules.specs.declared.Answer.{Answer}
+use Rattle.rules.specs.declared.Failure.{Failure}
 use Rattle.rules.specs.declared.Head.{Head}
 use Rattle.rules.specs.Answers.{is_accepted}
 use Rattle.rules.specs.Orders.{Call}
@@ -26,19 +27,19 @@ answer_of r t l o e = ap (λ (x : Outcome). x.answer) (seen_outcome r t l o e)
 
 module _ (head : Head) (table : List ℕ) (c : Call) (r : Done) (t l : List ℕ) where
   -- a prepare that keeps its promise gives each answer exactly where its condition holds
-  pub prepare_exactly : PreparePromise head table c r t l → (a : Answer) → (r.answer ≡ a) ↔ PrepareAnswers head table c a
+  pub prepare_exactly : PreparePromise head table c r t l → (a : Result ℕ Failure) → (r.answer ≡ a) ↔ PrepareAnswers head table c a
   prepare_exactly k = rw (answer_of r t l (prepare_of head table c) k) (law.prepare_exactly head table c)
 
   -- so does a rollback
-  pub rollback_exactly : RollbackPromise head table c r t l → (a : Answer) → (r.answer ≡ a) ↔ RollbackAnswers head table c a
+  pub rollback_exactly : RollbackPromise head table c r t l → (a : Result ℕ Failure) → (r.answer ≡ a) ↔ RollbackAnswers head table c a
   rollback_exactly k = rw (answer_of r t l (rollback_of head table c) k) (law.rollback_exactly head table c)
 
   -- so does a source removal
-  pub removal_exactly : RemovalPromise head table c r t l → (a : Answer) → (r.answer ≡ a) ↔ RemovalAnswers head table c a
+  pub removal_exactly : RemovalPromise head table c r t l → (a : Result ℕ Failure) → (r.answer ≡ a) ↔ RemovalAnswers head table c a
   removal_exactly k = rw (answer_of r t l (removal_of head table c) k) (law.removal_exactly head table c)
 
   -- so does a publish
-  pub publish_exactly : PublishPromise head table c r t l → (a : Answer) → (r.answer ≡ a) ↔ PublishAnswers head table c a
+  pub publish_exactly : PublishPromise head table c r t l → (a : Result ℕ Failure) → (r.answer ≡ a) ↔ PublishAnswers head table c a
   publish_exactly k = rw (answer_of r t l (publish_of head table c) k) (law.publish_exactly head table c)
 
   -- a publish is accepted exactly when no check applies, there is room, and every byte that it reads is 0
@@ -51,7 +52,7 @@ module _ (head : Head) (table : List ℕ) (c : Call) (r : Done) (t l : List ℕ)
 
 -- a count that keeps its promise gives each answer exactly where its condition holds
 pub count_exactly :
-    (head : Head) (table : List ℕ) (binding key : ℕ) (b : Answer) → CountPromise head table binding key b → (a : Answer) →
+    (head : Head) (table : List ℕ) (binding key : ℕ) (b : Result ℕ Failure) → CountPromise head table binding key b → (a : Result ℕ Failure) →
     (b ≡ a) ↔ CountAnswers head table binding key a
 count_exactly head table binding key b k =
     rw (told_injective b (count_of head table binding key) k) (law.count_exactly head table binding key)

@@ -1,13 +1,15 @@
 -- From what C and Rust call to the theorems: where the promise of an exported function holds of the numbers that came back, there
 -- is an answer that tells these numbers, and of which the promise of the call behind holds. So what is guaranteed of results of
 -- that call is guaranteed of what C and Rust get. Of runs, right or withheld is said here in the numbers that were told.
+use Rattle.std.proofs.Common.{Result, Ok, Err, ℕ}
 use Prim.Native.Nat.{ℕ, ◌<◌}
 use mathlib.Core.Path.{◌≡◌, refl, sym, ap, ◌∙◌}
 use mathlib.Core.List.{List, [], ◌∷◌, ◌++◌, map, append-nil}
 use mathlib.Core.Bool.{Bool, true, false, cond, ◌||◌}
 use lib.Dec.{eqb}
+use Rattle.std.proofs.Common.{Result}
 use borrow.Author.Tests.{lt-ltb, le-ltb}
-use Rattle.rules.specs.declared.Answer.{Answer}
+use Rattle.rules.specs.declared.Failure.{Failure}
 use Rattle.rules.specs.declared.Guard.{Guard}
 use Rattle.rules.specs.declared.Head.{Head}
 use Rattle.rules.specs.declared.Posting.{Posting}
@@ -25,12 +27,11 @@ use Rattle.publish.specs.Promises as posting
 use Rattle.guarding.specs.Asking.{flat}
 use Rattle.entry.specs.Promises.{EntryPromise}
 use Rattle.lane_rules.specs.declared.View.{View}
-use Rattle.lane_rules.specs.declared.Answer as lane_answer
+use Rattle.lane_rules.specs.declared.Failure as lane_failure
 use Rattle.lane_rules.specs.declared.Done as lane_done
 use Rattle.lane_rules.specs.Answers as lane_answers
 use Rattle.lane_rules.specs.Calls.{cached_of, refreshed_of, detach_of}
 use Rattle.lanes.specs.Promises as lane
-use Rattle.bucket_rules.specs.declared.Answer as bucket_answer
 use Rattle.bucket_rules.specs.Answers as bucket_answers
 use Rattle.bucket_rules.specs.Calls as bucket_calls
 use Rattle.bucket_rules.specs.Calls.{sort_of, bitmap_of}
@@ -50,7 +51,7 @@ use Rattle.guarantees.proofs.History.{calls_right_or_withheld}
 -- a posting call: the answer of the rules' outcome, with head, table and record list as they came back
 posting_behind :
     (r : Done) (t l : List ℕ) (o : Outcome) → posting_seen r t l ≡ posting.seen_of o →
-    Behind told_of r.told (λ (a : Answer). posting.seen (record { head = r.head; answer = a }) t l ≡ posting.seen_of o)
+    Behind told_of r.told (λ (a : Result ℕ Failure). posting.seen (record { head = r.head; answer = a }) t l ≡ posting.seen_of o)
 posting_behind r t l o e =
     record {
       answer = o.answer;
@@ -69,39 +70,39 @@ module _ (head : Head) (table : List ℕ) (c : Call) (r : Done) (t l : List ℕ)
   -- asdrifen_prepare_index_destinations
   pub exported_prepare :
       PreparePromise head table c r t l →
-      Behind told_of r.told (λ (a : Answer). posting.PreparePromise head table c (record { head = r.head; answer = a }) t l)
+      Behind told_of r.told (λ (a : Result ℕ Failure). posting.PreparePromise head table c (record { head = r.head; answer = a }) t l)
   exported_prepare e = posting_behind r t l (prepare_of head table c) e
 
   -- asdrifen_rollback_index_destinations
   pub exported_rollback :
       RollbackPromise head table c r t l →
-      Behind told_of r.told (λ (a : Answer). posting.RollbackPromise head table c (record { head = r.head; answer = a }) t l)
+      Behind told_of r.told (λ (a : Result ℕ Failure). posting.RollbackPromise head table c (record { head = r.head; answer = a }) t l)
   exported_rollback e = posting_behind r t l (rollback_of head table c) e
 
   -- asdrifen_remove_index_sources
   pub exported_removal :
       RemovalPromise head table c r t l →
-      Behind told_of r.told (λ (a : Answer). posting.RemovalPromise head table c (record { head = r.head; answer = a }) t l)
+      Behind told_of r.told (λ (a : Result ℕ Failure). posting.RemovalPromise head table c (record { head = r.head; answer = a }) t l)
   exported_removal e = posting_behind r t l (removal_of head table c) e
 
   -- asdrifen_publish_by_value
   pub exported_publish_by_value :
       PublishPromise head table c r t l →
-      Behind told_of r.told (λ (a : Answer). posting.PublishPromise head table c (record { head = r.head; answer = a }) t l)
+      Behind told_of r.told (λ (a : Result ℕ Failure). posting.PublishPromise head table c (record { head = r.head; answer = a }) t l)
   exported_publish_by_value e = posting_behind r t l (publish_of head table c) e
 
 -- asdrifen_publish
 pub exported_publish :
     (head : Head) (table changes : List ℕ) (guards : List Guard) (strip list : List ℕ) (r : Told) (head' : Head) (t l : List ℕ) →
     LentPublishPromise head table changes guards strip list r head' t l →
-    Behind told_of r (λ (a : Answer). EntryPromise head table changes guards strip list a head' t l)
+    Behind told_of r (λ (a : Result ℕ Failure). EntryPromise head table changes guards strip list a head' t l)
 exported_publish head table changes guards strip list r head' t l e =
     posting_behind (record { head = head'; told = r }) t l (publish_of head table (lending changes (flat guards) strip list)) e
 
 -- asdrifen_count
 pub exported_count :
     (head : Head) (table : List ℕ) (binding key : ℕ) (r : Told) → CountPromise head table binding key r →
-    Behind told_of r (λ (a : Answer). posting.CountPromise head table binding key a)
+    Behind told_of r (λ (a : Result ℕ Failure). posting.CountPromise head table binding key a)
 exported_count head table binding key r e =
     record { answer = count_of head table binding key; numbers = sym e; promise = refl }
 
@@ -114,7 +115,7 @@ exported_held guards binding key r e = record { answer = held binding key guards
 -- a lane call
 lane_behind :
     (r : Detached) (d : lane_done.Done) → lane_seen r ≡ lane.seen d →
-    Behind lane_answers.told_of (record { answer = r.answer; value = r.value }) (λ (a : lane_answer.Answer). lane.seen (record { view = r.view; answer = a }) ≡ lane.seen d)
+    Behind lane_answers.told_of (record { answer = r.answer; value = r.value }) (λ (a : Result ℕ lane_failure.Failure). lane.seen (record { view = r.view; answer = a }) ≡ lane.seen d)
 lane_behind r d e =
     record {
       answer = d.answer;
@@ -126,25 +127,25 @@ module _ (v : View) (strip : List ℕ) (r : Detached) where
   -- asdrifen_cached_detach
   pub exported_cached :
       CachedPromise v strip r →
-      Behind lane_answers.told_of (record { answer = r.answer; value = r.value }) (λ (a : lane_answer.Answer). lane.CachedPromise v strip (record { view = r.view; answer = a }))
+      Behind lane_answers.told_of (record { answer = r.answer; value = r.value }) (λ (a : Result ℕ lane_failure.Failure). lane.CachedPromise v strip (record { view = r.view; answer = a }))
   exported_cached e = lane_behind r (cached_of v strip) e
 
   -- asdrifen_refreshed_detach
   pub exported_refreshed :
       RefreshedPromise v strip r →
-      Behind lane_answers.told_of (record { answer = r.answer; value = r.value }) (λ (a : lane_answer.Answer). lane.RefreshedPromise v strip (record { view = r.view; answer = a }))
+      Behind lane_answers.told_of (record { answer = r.answer; value = r.value }) (λ (a : Result ℕ lane_failure.Failure). lane.RefreshedPromise v strip (record { view = r.view; answer = a }))
   exported_refreshed e = lane_behind r (refreshed_of v strip) e
 
   -- asdrifen_detach_before_retire
   pub exported_detach :
       (lent : ℕ) → DetachPromise v strip lent r →
-      Behind lane_answers.told_of (record { answer = r.answer; value = r.value }) (λ (a : lane_answer.Answer). lane.DetachPromise v strip lent (record { view = r.view; answer = a }))
+      Behind lane_answers.told_of (record { answer = r.answer; value = r.value }) (λ (a : Result ℕ lane_failure.Failure). lane.DetachPromise v strip lent (record { view = r.view; answer = a }))
   exported_detach lent e = lane_behind r (detach_of v strip lent) e
 
 -- a bucket call, whose two numbers cross as three
 bucket_behind :
     (r : Told) (o s : List ℕ) (x : bucket_calls.Outcome) → bucket_seen r o s ≡ with_other (bucket.seen x) →
-    Behind (λ (a : bucket_answer.Answer). three_numbers (bucket_answers.told_of a)) r (λ (a : bucket_answer.Answer). bucket.seen (bucket.outcome_of a o s) ≡ bucket.seen x)
+    Behind (λ (a : bucket_answers.Answer). three_numbers (bucket_answers.told_of a)) r (λ (a : bucket_answers.Answer). bucket.seen (bucket.outcome_of a o s) ≡ bucket.seen x)
 bucket_behind r o s x e =
     record {
       answer = x.answer;
@@ -161,13 +162,13 @@ bucket_behind r o s x e =
 -- asdrifen_canonical_buckets_sort
 pub exported_sort :
     (input : List ℕ) (count : ℕ) (output : List ℕ) (r : Told) (o : List ℕ) → SortPromise input count output r o →
-    Behind (λ (a : bucket_answer.Answer). three_numbers (bucket_answers.told_of a)) r (λ (a : bucket_answer.Answer). bucket.SortPromise input count output a o)
+    Behind (λ (a : bucket_answers.Answer). three_numbers (bucket_answers.told_of a)) r (λ (a : bucket_answers.Answer). bucket.SortPromise input count output a o)
 exported_sort input count output r o e = bucket_behind r o [] (sort_of input count output) e
 
 -- asdrifen_canonical_buckets_bitmap
 pub exported_bitmap :
     (input : List ℕ) (count : ℕ) (output scratch : List ℕ) (r : Told) (o s : List ℕ) → BitmapPromise input count output scratch r o s →
-    Behind (λ (a : bucket_answer.Answer). three_numbers (bucket_answers.told_of a)) r (λ (a : bucket_answer.Answer). bucket.BitmapPromise input count output scratch a o s)
+    Behind (λ (a : bucket_answers.Answer). three_numbers (bucket_answers.told_of a)) r (λ (a : bucket_answers.Answer). bucket.BitmapPromise input count output scratch a o s)
 exported_bitmap input count output scratch r o s e = bucket_behind r o s (bitmap_of input count output scratch) e
 
 -- asdrifen_stamp_precedes_snapshot: 1 for yes, 0 for no
@@ -179,7 +180,7 @@ exported_precedes stamp snapshot r e = record { answer = precedes stamp snapshot
 -- a publish of either form
 publish_behind :
     (x : Index) (m : Crossed) (g : GuardsLent) → promised g x m →
-    Behind told_of m.told (λ (a : Answer). posting.PublishPromise x.head x.table (lending m.changes (numbers_of g) m.strip m.list) (record { head = m.head; answer = a }) m.table m.record_list)
+    Behind told_of m.told (λ (a : Result ℕ Failure). posting.PublishPromise x.head x.table (lending m.changes (numbers_of g) m.strip m.list) (record { head = m.head; answer = a }) m.table m.record_list)
 publish_behind x m (GuardsLent.structs gs) k =
     exported_publish x.head x.table m.changes gs m.strip m.list m.told m.head m.table m.record_list k
 publish_behind x m (GuardsLent.numbers ns) k =
@@ -187,7 +188,7 @@ publish_behind x m (GuardsLent.numbers ns) k =
     m.table m.record_list k
 
 -- the inner call behind a publish, where its answer is known
-abbrev made_by : Crossed → Answer → Made
+abbrev made_by : Crossed → Result ℕ Failure → Made
 made_by m a =
     record { call = lent_to m; result = record { head = m.head; answer = a }; table = m.table; record_list = m.record_list }
 
@@ -216,23 +217,23 @@ exported_right_or_withheld x start h ms r =
 
 -- an answer accepts where it tells 0, and poisons where it tells 12 or 13
 classes_told :
-    (a : Answer) →
+    (a : Result ℕ Failure) →
     (is_accepted a ≡ eqb (told_of a).answer 0) × (poisons a ≡ (eqb (told_of a).answer 12 || eqb (told_of a).answer 13))
-classes_told (Answer.Accepted n) = (refl, refl)
-classes_told Answer.Table = (refl, refl)
-classes_told Answer.Poisoned = (refl, refl)
-classes_told Answer.List = (refl, refl)
-classes_told Answer.Strip = (refl, refl)
-classes_told Answer.Room = (refl, refl)
-classes_told (Answer.Guard i) = (refl, refl)
-classes_told (Answer.Twice i j) = (refl, refl)
-classes_told (Answer.Present i) = (refl, refl)
-classes_told (Answer.Overlap i) = (refl, refl)
-classes_told (Answer.Store i) = (refl, refl)
-classes_told (Answer.Full i) = (refl, refl)
-classes_told (Answer.Undo i) = (refl, refl)
-classes_told (Answer.Source i) = (refl, refl)
-classes_told (Answer.Record place) = (refl, refl)
+classes_told (Ok n) = (refl, refl)
+classes_told (Err Failure.Table) = (refl, refl)
+classes_told (Err Failure.Poisoned) = (refl, refl)
+classes_told (Err Failure.List) = (refl, refl)
+classes_told (Err Failure.Strip) = (refl, refl)
+classes_told (Err Failure.Room) = (refl, refl)
+classes_told (Err (Failure.Guard i)) = (refl, refl)
+classes_told (Err (Failure.Twice i j)) = (refl, refl)
+classes_told (Err (Failure.Present i)) = (refl, refl)
+classes_told (Err (Failure.Overlap i)) = (refl, refl)
+classes_told (Err (Failure.Store i)) = (refl, refl)
+classes_told (Err (Failure.Full i)) = (refl, refl)
+classes_told (Err (Failure.Undo i)) = (refl, refl)
+classes_told (Err (Failure.Source i)) = (refl, refl)
+classes_told (Err (Failure.Record place)) = (refl, refl)
 
 -- the numbers that the publishes told say of the inner calls whether one broke
 inner_sound : {ms : List Called} {ns : List Made} → AllInner ms ns → sound ns ≡ sound_across ms
@@ -393,7 +394,7 @@ module _ (x : Index) (start : List Posting) (h : Holds x start) (ms : List Calle
       CountPromise (end_across x ms).head (end_across x ms).table binding key told →
       told ≡ record { answer = 2; named = 0; other = 0 }
   count_withheld s binding key told k =
-      let none : count_of (end_across x ms).head (end_across x ms).table binding key ≡ Answer.Poisoned =
+      let none : count_of (end_across x ms).head (end_across x ms).table binding key ≡ Err Failure.Poisoned =
       rw (← inner_end x behind.1)
       ((withheld_behind s).counts binding key (count_of (end x behind.0).head (end x behind.0).table binding key) refl) in
       k ∙ ap told_of none
@@ -403,7 +404,7 @@ module _ (x : Index) (start : List Posting) (h : Holds x start) (ms : List Calle
       let b = publish_behind (end_across x ms) m m.guards k in
       let kept :
       (n : Made) → Kept (end_across x ms) n →
-      outcome n ≡ as_before (end_across x ms).head (end_across x ms).table n.call.record_list Answer.Poisoned =
+      outcome n ≡ as_before (end_across x ms).head (end_across x ms).table n.call.record_list (Err Failure.Poisoned) =
       rw (← inner_end x behind.1) (withheld_behind s).publishes in
       let o = kept (made_by m b.answer) b.promise in
       record {

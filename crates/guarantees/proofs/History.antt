@@ -1,10 +1,11 @@
 -- Right or withheld, of the calls themselves: what they answered and left is the history that the rules' theorem speaks of, since
 -- each promise determines its outcome.
+use Rattle.std.proofs.Common.{Result, Err, ℕ}
 use Prim.Native.Nat.{ℕ}
 use mathlib.Core.Path.{◌≡◌, refl, sym, ap, ◌∙◌}
 use mathlib.Core.List.{List, [], ◌∷◌, ◌++◌, map}
 use mathlib.Core.Bool.{Bool, true, false, cond, not, ◌&&◌}
-use Rattle.rules.specs.declared.Answer.{Answer}
+use Rattle.rules.specs.declared.Failure.{Failure}
 use Rattle.rules.specs.declared.Guard.{Guard}
 use Rattle.rules.specs.declared.Head.{Head}
 use Rattle.rules.specs.declared.Posting.{Posting}
@@ -116,7 +117,7 @@ module _ (x : Index) (start : List Posting) (h : Holds x start) (ms : List Made)
         publishes = λ m k. sym (kept_published (end x ms) m k) ∙ rw (← e) (w.publishes m.call);
         counts =
             λ binding key n k.
-            let none : count_of (end x ms).head (end x ms).table binding key ≡ Answer.Poisoned =
+            let none : count_of (end x ms).head (end x ms).table binding key ≡ Err Failure.Poisoned =
             rw (← e) (w.counts binding key) in
             told_injective n (count_of (end x ms).head (end x ms).table binding key) k ∙ none;
         fixed =
@@ -152,7 +153,7 @@ promise_kept head table c r t l k = k
 
 -- so is what the lent form promises, at the flat numbers of its guards: runs may be of either form, call by call
 pub lent_promise_kept :
-    (head : Head) (table changes : List ℕ) (guards : List Guard) (strip list : List ℕ) (a : Answer) (head' : Head) (t l : List ℕ) →
+    (head : Head) (table changes : List ℕ) (guards : List Guard) (strip list : List ℕ) (a : Result ℕ Failure) (head' : Head) (t l : List ℕ) →
     EntryPromise head table changes guards strip list a head' t l →
     Kept (record { head = head; table = table })
     (record {

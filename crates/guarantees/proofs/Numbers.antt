@@ -1,9 +1,10 @@
 -- The numbers that each call answers with, of the calls themselves: those of its own list alone, whatever it is lent.
+use Rattle.std.proofs.Common.{Result, ℕ}
 use Prim.Native.Nat.{ℕ}
 use mathlib.Core.Path.{◌≡◌}
 use mathlib.Core.List.{List}
 use mathlib.Core.Bool.{true}
-use Rattle.rules.specs.declared.Answer.{Answer}
+use Rattle.rules.specs.declared.Failure.{Failure}
 use Rattle.rules.specs.declared.Head.{Head}
 use Rattle.rules.specs.Answers.{told_of}
 use Rattle.lent_lists.specs.Among.{among}
@@ -31,6 +32,6 @@ module _ (head : Head) (table : List ℕ) (c : Call) (r : Done) (t l : List ℕ)
 
 -- count
 pub count_numbers_lem :
-    (head : Head) (table : List ℕ) (binding key : ℕ) (a : Answer) → CountPromise head table binding key a →
+    (head : Head) (table : List ℕ) (binding key : ℕ) (a : Result ℕ Failure) → CountPromise head table binding key a →
     among (told_of a).answer count_numbers ≡ true
 count_numbers_lem head table binding key a k = rw k (law.count_numbers_lem head table binding key)

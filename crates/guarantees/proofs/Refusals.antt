@@ -1,11 +1,12 @@
 -- Refusals, of the calls themselves: an answer of 1 to 11 or 14 leaves everything as before, a well-formed table stays well formed,
 -- no answer touches binding count or size, a well-formed table that is poisoned is refused with 2, and a table that is not well
 -- formed with 1.
+use Rattle.std.proofs.Common.{Result, Err, ℕ}
 use Prim.Native.Nat.{ℕ}
 use mathlib.Core.Path.{◌≡◌, ◌∙◌}
 use mathlib.Core.List.{List}
 use mathlib.Core.Bool.{true, false}
-use Rattle.rules.specs.declared.Answer.{Answer}
+use Rattle.rules.specs.declared.Failure.{Failure}
 use Rattle.rules.specs.declared.Head.{Head}
 use Rattle.rules.specs.Table.{well_formed}
 use Rattle.rules.specs.Orders.{Call}
@@ -85,14 +86,14 @@ module _ (head : Head) (table : List ℕ) (c : Call) (r : Done) (t l : List ℕ)
 
 -- every count of a poisoned table is refused with 2
 pub count_poisoned :
-    (head : Head) (table : List ℕ) (binding key : ℕ) (a : Answer) → CountPromise head table binding key a →
-    well_formed head table ≡ true → head.poisoned ≡ 1 → a ≡ Answer.Poisoned
+    (head : Head) (table : List ℕ) (binding key : ℕ) (a : Result ℕ Failure) → CountPromise head table binding key a →
+    well_formed head table ≡ true → head.poisoned ≡ 1 → a ≡ Err Failure.Poisoned
 count_poisoned head table binding key a k f p =
     told_injective a (count_of head table binding key) k ∙ law.count_poisoned head table f p binding key
 
 -- and of one that is not well formed with 1
 pub count_unformed :
-    (head : Head) (table : List ℕ) (binding key : ℕ) (a : Answer) → CountPromise head table binding key a →
-    well_formed head table ≡ false → a ≡ Answer.Table
+    (head : Head) (table : List ℕ) (binding key : ℕ) (a : Result ℕ Failure) → CountPromise head table binding key a →
+    well_formed head table ≡ false → a ≡ Err Failure.Table
 count_unformed head table binding key a k f =
     told_injective a (count_of head table binding key) k ∙ law.count_unformed head table f binding key

@@ -1,12 +1,12 @@
 -- Upstream's clauses, of the calls themselves: what a call answered and left meets every clause that the rules' outcome meets,
 -- and what it inserted and removed was guarded.
+use Rattle.std.proofs.Common.{Ok}
 use Prim.Native.Nat.{ℕ}
 use mathlib.Core.Path.{◌≡◌, sym, ◌∙◌}
 use mathlib.Core.List.{List}
 use mathlib.Core.Bool.{true}
 use lib.ListN.{length}
 use Rattle.strips.specs.Strips.{proper_strip}
-use Rattle.rules.specs.declared.Answer.{Answer}
 use Rattle.rules.specs.declared.Head.{Head}
 use Rattle.rules.specs.Orders.{destinations, sources, recorded, Call, changes_of}
 use Rattle.rules.specs.Answers.{is_accepted}
@@ -65,7 +65,7 @@ pub rollback_restores :
     PreparePromise head table c r t l → is_accepted r.answer ≡ true → proper_strip strip ≡ true →
     Quiet strip 0 (length (destinations (changes_of c))) →
     RollbackPromise r.head t (back_of c (outcome_of r t l) strip) r' t' l' →
-    outcome_of r' t' l' ≡ as_before head table (back_of c (outcome_of r t l) strip).record_list (Answer.Accepted 0)
+    outcome_of r' t' l' ≡ as_before head table (back_of c (outcome_of r t l) strip).record_list (Ok 0)
 rollback_restores head table c strip r r' t t' l l' k a s q k' =
     let e : prepare_of head table c ≡ outcome_of r t l = sym (seen_outcome r t l (prepare_of head table c) k) in
     let ok : is_accepted (prepare_of head table c).answer ≡ true = rw e a in

@@ -1,6 +1,6 @@
 -- Calls of publish that were made, one after the other, and what can be said of the table that they leave.
-use Rattle.std.specs.Prelude.{ℕ, ◌≡◌, List, [], ◌∷◌, ◌++◌, map, Bool, true, false, cond, not, ◌&&◌}
-use Rattle.rules.specs.declared.Answer.{Answer}
+use Rattle.std.specs.Prelude.{ℕ, ◌≡◌, List, [], ◌∷◌, ◌++◌, map, Bool, true, false, cond, not, ◌&&◌, Result, Err}
+use Rattle.rules.specs.declared.Failure.{Failure}
 use Rattle.rules.specs.declared.Posting.{Posting}
 use Rattle.rules.specs.Postings.{present, counted}
 use Rattle.rules.specs.Answers.{is_accepted, poisons}
@@ -64,7 +64,7 @@ pub record CallsRight (x : Index) (start : List Posting) (ms : List Made) : Type
   pub set : (p : Posting) → present p (postings_in (end x ms)) ≡ said_of (calls (taken ms)) p (present p start)
   -- each count that is answered is that table's own
   pub counts :
-      (binding key : ℕ) (a : Answer) → CountPromise (end x ms).head (end x ms).table binding key a →
+      (binding key : ℕ) (a : Result ℕ Failure) → CountPromise (end x ms).head (end x ms).table binding key a →
       a ≡ own_count x (said (calls (taken ms)) start) binding key
   -- and its number is that of the rows that the accepted calls say
   pub rows :
@@ -92,9 +92,9 @@ pub record CallsWithheld (x : Index) (ms : List Made) : Type 0 where
   -- every publish that is made is refused as poisoned, and changes nothing
   pub publishes :
       (m : Made) → Kept (end x ms) m →
-      outcome m ≡ as_before (end x ms).head (end x ms).table m.call.record_list Answer.Poisoned
+      outcome m ≡ as_before (end x ms).head (end x ms).table m.call.record_list (Err Failure.Poisoned)
   -- so is every count
-  pub counts : (binding key : ℕ) (a : Answer) → CountPromise (end x ms).head (end x ms).table binding key a → a ≡ Answer.Poisoned
+  pub counts : (binding key : ℕ) (a : Result ℕ Failure) → CountPromise (end x ms).head (end x ms).table binding key a → a ≡ Err Failure.Poisoned
   -- and table and head stay fixed, whatever is called
   pub fixed : (more : List Made) → Run (end x ms) more → end (end x ms) more ≡ end x ms
 

@@ -1,21 +1,22 @@
 -- A list of guards and its flat numbers; the walks over guards and over the keys that an order asks for, from a place on; and
 -- that the first place whose key is not held belongs to the first such change.
+use Rattle.std.proofs.Common.{Option, Some, None, Ok, ℕ}
 use Prim.Native.Nat.{ℕ, zero, suc, ◌+◌, ◌*◌, ◌/◌, ◌%◌, ◌-◌, ◌<◌, ◌≤◌}
 use native.Mathlib.Omega.{arith}
 use native.Mathlib.Numerals.{add-one}
 use mathlib.Core.Path.{◌≡◌, refl, sym, ap, ◌∙◌}
 use mathlib.Core.List.{List, [], ◌∷◌}
-use mathlib.Core.Bool.{Bool, true, false, not, cond, ◌&&◌, ◌||◌}
+use mathlib.Core.Bool.{Bool, true, false, cond, ◌&&◌}
 use mathlib.Mathlib.Data.Bool.Basic.{and_elim_left, and_elim_right, and_intro}
-use lib.Dec.{T, eqb, leb}
+use lib.Dec.{eqb, leb}
 use lib.ListN.{length, drop, get_or, drop_of_length-le}
 use lib.Seq.{drop-cons}
 use borrow.Author.Tests.{eq-eqb, ne_eqb}
-use Rattle.rules.specs.declared.Key.{Key}
+use Rattle.std.specs.List.{list_any}
+use Rattle.lent_lists.proofs.Among.{eqb_turned}
 use Rattle.rules.specs.declared.Change.{Change}
 use Rattle.rules.specs.declared.Guard.{Guard}
 use Rattle.rules.specs.declared.Head.{Head}
-use Rattle.rules.specs.declared.Verdict.{Verdict}
 use Rattle.rules.specs.Limits.{most_changes, most_guards}
 use Rattle.rules.specs.Orders.{changes, guards, proper_changes, proper_guards, proper_lists, held, no_change}
 use Rattle.rules.specs.Checks.{key_held, guard_check, order_checks}
@@ -23,7 +24,7 @@ use Rattle.checks.specs.Guarding.{first_unheld, bindings_from}
 use Rattle.checks.proofs.Guarding.{unheld_known}
 use Rattle.laws.proofs.Checks.{opened, order_passed}
 use Rattle.publish_core.proofs.Publishing.{order_proper}
-use Rattle.guarding.specs.Asking.{flat, wanted_of, wanted_at, wanted_held, keys_asked, unheld_from, unheld_place}
+use Rattle.guarding.specs.Asking.{flat, wanted_of, wanted_at, wanted_held, unheld_from, unheld_place}
 
 -- the flat numbers mean the guards
 pub flat_guards : (gs : List Guard) → guards (flat gs) ≡ gs
@@ -40,59 +41,24 @@ pub pairs_known : (gs : List Guard) → leb (length gs) most_guards ≡ proper_g
 unfolding proper_guards
 pairs_known gs = rw (eq-eqb (length (flat gs) % 2) 0 (flat_even gs), flat_guards gs)
 
--- a choice at a test that holds, and at one that does not
-or_true : (x y : Bool) → T x → (x || y) ≡ true
-or_true true y t = refl
-or_true false y t = absurd t
-
-or_false : (x y : Bool) → T (not x) → (x || y) ≡ y
-or_false true y t = absurd t
-or_false false y t = refl
-
-cond_true : {A : Type 0} (x : Bool) (a b : A) → T x → cond x a b ≡ a
-cond_true true a b t = refl
-cond_true false a b t = absurd t
-
-cond_false : {A : Type 0} (x : Bool) (a b : A) → T (not x) → cond x a b ≡ b
-cond_false true a b t = absurd t
-cond_false false a b t = refl
-
--- the pair is looked for in the guards from place i on
-abbrev pub is_guard : Guard → ℕ → ℕ → Bool
-is_guard g binding key = eqb binding g.binding && eqb key g.key
-
-module _ (gs : List Guard) (binding key i : ℕ) (d : Guard) where
-  pub held_here : i < length gs → T (is_guard (get_or gs i d) binding key) → held binding key (drop i gs) ≡ true
-  unfolding held
-  held_here l t = ap (held binding key) (drop-cons gs i d l) ∙ or_true (is_guard (get_or gs i d) binding key) _ t
-
-  pub held_further :
-      i < length gs → T (not (is_guard (get_or gs i d) binding key)) → held binding key (drop i gs) ≡ held binding key (drop (i + 1) gs)
-  unfolding held
-  held_further l t =
-      ap (held binding key) (drop-cons gs i d l) ∙ or_false (is_guard (get_or gs i d) binding key) _ t ∙
-      ap (λ (j : ℕ). held binding key (drop j gs)) (sym (add-one i))
-
-pub held_nowhere : (gs : List Guard) (binding key i : ℕ) → length gs ≤ i → held binding key (drop i gs) ≡ false
+-- the pair is looked for as the library looks for it
+pub held_by_any :
+    (binding key : ℕ) (gs : List Guard) → list_any (λ (g : Guard). eqb g.binding binding && eqb g.key key) gs ≡ held binding key gs
 unfolding held
-held_nowhere gs binding key i l = ap (held binding key) (drop_of_length-le gs l)
+held_by_any binding key [] = refl
+held_by_any binding key (g ∷ gs) = rw (eqb_turned g.binding binding, eqb_turned g.key key, held_by_any binding key gs)
 
 -- the key that is not held is looked for from a place on, n places in all
 module _ (gs : List Guard) (cs : List Change) (place n : ℕ) where
   left : place < n → n - place ≡ suc (n - (place + 1))
   left l = omega arith
 
-  pub unheld_further :
-      place < n → T (wanted_held gs (wanted_at cs place)) →
-      unheld_from gs cs place (n - place) ≡ unheld_from gs cs (place + 1) (n - (place + 1))
+  pub unheld_left :
+      place < n →
+      unheld_from gs cs place (n - place) ≡
+      cond (wanted_held gs (wanted_at cs place)) (unheld_from gs cs (place + 1) (n - (place + 1))) place
   unfolding unheld_from
-  unheld_further l t =
-      ap (unheld_from gs cs place) (left l) ∙ cond_true (wanted_held gs (wanted_at cs place)) _ place t ∙
-      ap (λ (j : ℕ). unheld_from gs cs j (n - (place + 1))) (sym (add-one place))
-
-  pub unheld_here : place < n → T (not (wanted_held gs (wanted_at cs place))) → unheld_from gs cs place (n - place) ≡ place
-  unfolding unheld_from
-  unheld_here l t = ap (unheld_from gs cs place) (left l) ∙ cond_false (wanted_held gs (wanted_at cs place)) _ place t
+  unheld_left l = rw (left l, add-one place)
 
   pub unheld_nowhere : n ≤ place → unheld_from gs cs place (n - place) ≡ place
   unfolding unheld_from
@@ -101,17 +67,9 @@ module _ (gs : List Guard) (cs : List Change) (place n : ℕ) where
       none : n - place ≡ 0
       none = omega arith
 
--- keys that are asked for are keys of the order
-pub asked_within : (poisoned n : ℕ) (list : List ℕ) (place : ℕ) → place < keys_asked poisoned n list → place < length (changes list) * 2
-asked_within poisoned n list place l = go (eqb poisoned 0 && (leb (length (changes list)) most_changes && leb n most_guards)) l
-  where
-    go : (b : Bool) → place < cond b (length (changes list) * 2) 0 → place < length (changes list) * 2
-    go true h = h
-    go false h = absurd (omega arith)
-
-wanted_held_lem : (gs : List Guard) (binding : ℕ) (key : Key) → wanted_held gs (wanted_of binding key) ≡ key_held binding key gs
-wanted_held_lem gs binding Key.Missing = refl
-wanted_held_lem gs binding (Key.Named key) = refl
+wanted_held_lem : (gs : List Guard) (binding : ℕ) (key : Option ℕ) → wanted_held gs (wanted_of binding key) ≡ key_held binding key gs
+wanted_held_lem gs binding None = refl
+wanted_held_lem gs binding (Some key) = refl
 
 -- the two places of change i
 module _ (gs : List Guard) (cs : List Change) (i : ℕ) where
@@ -157,7 +115,7 @@ unheld_change gs cs (suc m) i e =
 -- where 1 to 5 pass, what was found of the guards is what 6 finds by their flat numbers
 pub guards_found :
     (head : Head) (table list : List ℕ) (gs : List Guard) (strip record_list : List ℕ) →
-    order_checks head table list (leb (length gs) most_guards) strip record_list ≡ Verdict.Passes →
+    order_checks head table list (leb (length gs) most_guards) strip record_list ≡ Ok tt →
     bindings_from head.bindings (unheld_place head.poisoned gs list / 2) 0 (changes list) ≡ guard_check head.bindings (guards (flat gs)) (changes list)
 unfolding proper_lists guard_check
 guards_found head table list gs strip record_list h =

@@ -1,31 +1,30 @@
 -- The held guards as a list of guards, and what an order asks of them.
-use Rattle.std.specs.Prelude.{ℕ, zero, suc, ◌*◌, ◌/◌, ◌%◌, List, [], ◌∷◌, Bool, true, false, cond, ◌&&◌, length, get_or, eqb, leb}
-use Rattle.rules.specs.declared.Key.{Key}
+use Rattle.std.specs.Prelude.{ℕ, zero, suc, ◌*◌, ◌/◌, ◌%◌, List, [], ◌∷◌, Bool, true, cond, ◌&&◌, length, get_or, eqb, leb, Option, Some, None}
 use Rattle.rules.specs.declared.Change.{Change}
 use Rattle.rules.specs.declared.Guard.{Guard}
 use Rattle.rules.specs.Limits.{most_changes, most_guards}
 use Rattle.rules.specs.Orders.{changes, held, no_change}
-use Rattle.guarding.specs.declared.Wanted.{Wanted}
 
 -- the flat numbers of guards, two to each: binding, key
 unfoldable pub flat : List Guard → List ℕ
 flat [] = []
 flat (g ∷ gs) = g.binding ∷ g.key ∷ flat gs
 
--- a change's key, or none, as it is asked for
-abbrev pub wanted_of : ℕ → Key → Wanted
-wanted_of binding Key.Missing = record { named = false; binding = binding; key = 0 }
-wanted_of binding (Key.Named key) = record { named = true; binding = binding; key = key }
+-- the guard that a change's key asks for, if it has one
+abbrev pub wanted_of : ℕ → Option ℕ → Option Guard
+wanted_of binding None = None
+wanted_of binding (Some key) = Some (record { binding = binding; key = key })
 
 -- the before of a change stands at an even place, its after at the next
-abbrev pub wanted_at : List Change → ℕ → Wanted
+abbrev pub wanted_at : List Change → ℕ → Option Guard
 wanted_at cs place =
     let c = get_or cs (place / 2) no_change in
     wanted_of c.binding (cond (eqb (place % 2) 0) c.before c.after)
 
--- a named key is held; none need not be
-abbrev pub wanted_held : List Guard → Wanted → Bool
-wanted_held gs w = cond w.named (held w.binding w.key gs) true
+-- a guard that is asked for is held; none need not be
+abbrev pub wanted_held : List Guard → Option Guard → Bool
+wanted_held gs None = true
+wanted_held gs (Some g) = held g.binding g.key gs
 
 -- two places for each change; none where the poison flag is set, or beside lists that are over their limits
 abbrev pub keys_asked : ℕ → ℕ → List ℕ → ℕ

@@ -1,8 +1,8 @@
 -- The by-value call beside what was found of the guards, and the head that is set in place after it.
-use Rattle.std.specs.Prelude.{ℕ, ◌/◌, List, [], ◌∷◌, ◌≡◌, cond, eqb, leb}
+use Rattle.std.specs.Prelude.{ℕ, ◌/◌, List, [], ◌∷◌, ◌≡◌, cond, eqb, leb, Result}
+use Rattle.rules.specs.declared.Failure.{Failure}
 use Rattle.rules.specs.Limits.{most_guards}
 use Rattle.rules.specs.declared.Head.{Head}
-use Rattle.rules.specs.declared.Verdict.{Verdict}
 use Rattle.rules.specs.Orders.{changes}
 use Rattle.rules.specs.Checks.{first_refusal, order_checks}
 use Rattle.rules.specs.Calls.{Outcome, head_with}
@@ -15,7 +15,7 @@ abbrev pub poisoned_head : Head → Head
 poisoned_head head = head_with head head.used 1
 
 -- 1 to 5, and 6 by the first place whose key is not held, of so many guards
-abbrev pub asked_beside : Head → List ℕ → List ℕ → ℕ → ℕ → List ℕ → List ℕ → Verdict
+abbrev pub asked_beside : Head → List ℕ → List ℕ → ℕ → ℕ → List ℕ → List ℕ → Result Unit Failure
 asked_beside head table cs guards unheld strip list =
     first_refusal
     (order_checks head table cs (leb guards most_guards) strip list

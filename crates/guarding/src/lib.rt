@@ -1,25 +1,19 @@
-// What the lent forms decide, over plain values: which keys an order asks the guards for, whether a guard is the one asked for, and
-// the by-value call. An inner layer, not delivered.
+// What the lent forms decide, over plain values: which keys an order asks the guards for, and the by-value call. An inner layer, not
+// delivered.
 #![tactic(auto)]
 
-ghost use Rattle.std.specs.Prelude.{◌*◌, ◌<◌, ◌≡◌, ◌&&◌, length, eqb};
+ghost use Rattle.std.specs.Prelude.{◌*◌, ◌<◌, ◌≡◌, length, MatchOption};
 ghost use Rattle.rules.specs.Orders.{changes};
 ghost use Rattle.guarding.specs.Asking.{wanted_of, wanted_at, keys_asked};
-ghost use Rattle.guarding.specs.InPlace.{ByValuePromise};
+ghost use Rattle.rules.specs.Calls.{outcome_of};
+ghost use Rattle.guarding.specs.InPlace.{value_of, ByValuePromise};
 
-use changes::{change_at, count_of};
-use checks::{MOST_CHANGES, MOST_GUARDS};
-use rules::{Answer, Guard, Head, Key};
+use changes::{Changes, change_at};
+use checks::MOST_GUARDS;
+use rules::{Answer, Done, Guard, Head};
 
-// A key that a change names, or none.
-#[derive(Clone, Copy)]
-pub struct Wanted {
-    pub named: bool,
-    pub binding: u32,
-    pub key: u32,
-}
-
-// What a publish answers, the head that it leaves but for the poison flag, which is as it was lent, and whether that is to be set.
+// What a publish answers, the head that it leaves but for the poison flag, which is as it was lent, and whether that is to be set: told
+// apart for `poison_indexes`, which sets it in place, as `ByValuePromise` says.
 #[derive(Clone, Copy)]
 pub struct Published {
     pub answer: Answer,
@@ -27,66 +21,60 @@ pub struct Published {
     pub poisons: bool,
 }
 
-// The guard is this pair.
-pub fn is_guard(guard: Guard, binding: u32, key: u32) -> bool
-    ensures { result ≡ (eqb binding guard.binding && eqb key guard.key) }
+// The changes whose keys are asked for: none where the poison flag is set, which 1 or 2 refuses, or beside lists that are over their
+// limits, which 3 refuses. So no guard is walked for these.
+pub fn changes_asked(poisoned: u32, list: &[u32], guards: usize) -> Option<Changes>
+    ensures { MatchOption result (keys_asked poisoned guards list.now ≡ 0)
+        (λ all. (all.numbers.now ≡ list.now) × (keys_asked poisoned guards list.now ≡ length (changes list.now) * 2)) }
 {
-    if binding == guard.binding {
-        return key == guard.key;
+    if poisoned == 0 && guards <= MOST_GUARDS {
+        Changes::few(list)
+    } else {
+        None
     }
-    false
 }
 
-// How many keys are asked for: two of each change; and none where the poison flag is set, which 1 or 2 refuses, or beside lists
-// that are over their limits, which 3 refuses. So no guard is walked for these.
-pub fn keys_asked(poisoned: u32, list: &[u32], guards: usize) -> usize
-    ensures { result ≡ keys_asked poisoned guards list.now }
-{
-    if poisoned != 0 {
-        return 0;
-    }
-    let n = count_of(list);
-    if n <= MOST_CHANGES {
-        if guards <= MOST_GUARDS {
-            return n * 2;
-        }
-    }
-    0
-}
-
-// The key of a change, and its binding.
-fn as_wanted(binding: u32, key: Key) -> Wanted
+// The guard that a key of a change asks for.
+fn as_wanted(binding: u32, key: Option<u32>) -> Option<Guard>
     ensures { result ≡ wanted_of binding key }
 {
-    match key {
-        Key::Missing => Wanted {
-            named: false,
-            binding,
-            key: 0,
-        },
-        Key::Named(k) => Wanted {
-            named: true,
-            binding,
-            key: k,
-        },
-    }
+    key.map(|key| Guard { binding, key })
 }
 
-// The key at a place, two places to a change: its before, its after.
-pub fn wanted_at(list: &[u32], place: usize) -> Wanted
+// The guard that is asked for at a place, two places to a change: its before, its after.
+pub fn wanted_at(list: &[u32], place: usize) -> Option<Guard>
     requires { place < length (changes list.now) * 2 }
     ensures { result ≡ wanted_at (changes list.now) place }
 {
     let change = change_at(list, place / 2);
-    if place % 2 == 0 {
-        let before = change.before;
-        return as_wanted(change.binding, before);
-    }
-    let after = change.after;
-    as_wanted(change.binding, after)
+    let key = if place % 2 == 0 {
+        change.before
+    } else {
+        change.after
+    };
+    as_wanted(change.binding, key)
 }
 
-// The by-value call, beside so many guards and the first place whose key they do not hold.
+// The core beside so many guards and the first place whose key they do not hold.
+fn publish_beside(
+    head: Head,
+    table: &mut [u32],
+    list: &[u32],
+    guards: usize,
+    unheld: usize,
+    strip: &[u8],
+    record: &mut [u32],
+) -> Done
+    ensures { outcome_of result table.new «record».new ≡ value_of head table.old list.now guards unheld strip.now «record».old }
+{
+    let paired = guards <= MOST_GUARDS;
+    match refusals::of_publish_beside(head, table, list, paired, unheld / 2, strip, record) {
+        Ok(list) => publish_core::publish(head, table, list, strip, record),
+        Err(why) => Done::refused(head, why),
+    }
+}
+
+// The by-value call: the head comes back with the poison flag as it was lent, and whether it is to be set is told apart.
 pub fn publish_by_value(
     head: Head,
     table: &mut [u32],
@@ -99,18 +87,13 @@ pub fn publish_by_value(
     ensures { ByValuePromise head table.old list.now guards unheld strip.now
         «record».old result table.new «record».new }
 {
-    let paired = guards <= MOST_GUARDS;
-    let ordered = refusals::of_order(head, table, list, paired, strip, record);
-    let guarded = refusals::binding(ordered, head.bindings, list, unheld / 2);
-    let done = publish_core::publish(head, table, list, guarded, strip, record);
-    let answer = done.answer;
+    let done = publish_beside(head, table, list, guards, unheld, strip, record);
     let after = done.head;
     Published {
-        answer,
+        answer: done.answer,
         head: Head {
-            bindings: after.bindings,
-            used: after.used,
             poisoned: head.poisoned,
+            ..after
         },
         poisons: after.poisoned == 1,
     }

@@ -1,4 +1,5 @@
 -- After a 12 and after a 13 the table holds exactly the postings that the bytes of the strip and the room in the table say.
+use Rattle.std.proofs.Common.{Result, Ok, Err, ℕ}
 use Prim.Native.Nat.{ℕ, ◌+◌, ◌-◌, ◌≤◌, ◌<◌}
 use native.Mathlib.Nat.{zero-add}
 use native.Mathlib.Omega.{arith}
@@ -15,8 +16,7 @@ use Rattle.strips.proofs.Walk.{byte_most}
 use Rattle.lent_lists.specs.Written.{written}
 use Rattle.rules.specs.declared.Posting.{Posting}
 use Rattle.rules.specs.declared.Head.{Head}
-use Rattle.rules.specs.declared.Answer.{Answer}
-use Rattle.rules.specs.declared.Verdict.{Verdict}
+use Rattle.rules.specs.declared.Failure.{Failure}
 use Rattle.rules.specs.Postings.{present}
 use Rattle.rules.specs.Table.{capacity}
 use Rattle.rules.specs.Orders.{Numbered, postings_of, change_numbers, Call}
@@ -39,45 +39,45 @@ use Rattle.history.proofs.Leftovers.{halts_leaves, undoing_leaves, prepare_stops
 
 -- no check refuses with a number that tells another class
 not_refused :
-    {A : Type 0} (v : Verdict) (a : Answer) (n : ℕ) → Says is_refusal v → v ≡ Verdict.Refused a → (told_of a).answer ≡ n →
+    {A : Type 0} (v : Result Unit Failure) (a : Failure) (n : ℕ) → Says is_refusal v → v ≡ Err a → (told_of (Err a)).answer ≡ n →
     refuses (class_of_number n) ≡ false → A
 not_refused v a n p e h k =
-    absurd (clash (is_refusal a) (p a e) (ap refuses (class_by_number a ∙ ap class_of_number h) ∙ k))
+    absurd (clash (is_refusal (Err a)) (p a e) (ap refuses (class_by_number (Err a) ∙ ap class_of_number h) ∙ k))
 
 -- an insertion that failed says 10 or 11
-cause_below : (byte used size change : ℕ) (why : Answer) → Cause byte used size change why → (told_of why).answer < 12
+cause_below : (byte used size change : ℕ) (why : Failure) → Cause byte used size change why → (told_of (Err why)).answer < 12
 cause_below byte used size change why (Cause.store h) = omega arith
 cause_below byte used size change why (Cause.full h k) = omega arith
 
 module _ (head : Head) (table : List ℕ) (c : Call) where
   -- a strip that its check passes has no byte above 2
-  proper_bytes_lem : lent_of c ≡ Verdict.Passes → (i : ℕ) → byte_at c.strip i ≤ 2
+  proper_bytes_lem : lent_of c ≡ Ok tt → (i : ℕ) → byte_at c.strip i ≤ 2
   unfolding proper_strip
   proper_bytes_lem h i =
       byte_most c.strip i (and_elim_right (leb (length c.strip) most_bytes) (proper_bytes c.strip) (lent_proper _ _ _ h).1)
 
-  publish_bytes : publish_checks head table c ≡ Verdict.Passes → (i : ℕ) → byte_at c.strip i ≤ 2
+  publish_bytes : publish_checks head table c ≡ Ok tt → (i : ℕ) → byte_at c.strip i ≤ 2
   publish_bytes h = proper_bytes_lem (publish_passed head table c h).lent
 
-  removal_bytes : removal_checks head table c ≡ Verdict.Passes → (i : ℕ) → byte_at c.strip i ≤ 2
+  removal_bytes : removal_checks head table c ≡ Ok tt → (i : ℕ) → byte_at c.strip i ≤ 2
   removal_bytes h = proper_bytes_lem (removal_passed head table c h).1
 
   -- a stage that poisons, as it is shown
   shown_poisoned :
-      (list : List ℕ) (s : Stage) (a : Answer) (ps : List Posting) → s.answer ≡ a → poisons a ≡ true → s.postings ≡ ps →
+      (list : List ℕ) (s : Stage) (a : Result ℕ Failure) (ps : List Posting) → s.answer ≡ a → poisons a ≡ true → s.postings ≡ ps →
       shown head table list s ≡ poisoned_with head table list a ps
   shown_poisoned list s a ps e p k = rw (e, p, k)
 
   -- the postings that are left there
   poisoned_left :
-      (list : List ℕ) (a : Answer) (ps : List Posting) (o : Outcome) → o ≡ poisoned_with head table list a ps → postings_left o ≡ ps
+      (list : List ℕ) (a : Result ℕ Failure) (ps : List Posting) (o : Outcome) → o ≡ poisoned_with head table list a ps → postings_left o ≡ ps
   poisoned_left list a ps o e = rw e (postings_laid_out (length table) ps)
 
   -- an outcome that is the one told is what the failure leaves
   source_leaves :
       (list : List ℕ) (ds : List Numbered) (j : ℕ) (o : Outcome) → j < length (leaving c) → Quiet c.strip 0 (length ds + j) →
       (byte_at c.strip (length ds + j) ≡ 0 → ⊥) →
-      o ≡ poisoned_with head table list (Answer.Source (number_at (leaving c) j)) (taken_away (take (gone_at (byte_at c.strip (length ds + j)) j) (leaving c)) (added ds (postings_before head table))) →
+      o ≡ poisoned_with head table list (Err (Failure.Source (number_at (leaving c) j))) (taken_away (take (gone_at (byte_at c.strip (length ds + j)) j) (leaving c)) (added ds (postings_before head table))) →
       SourceLeaves head table list c.strip ds (leaving c) o
   source_leaves list ds j o l q f e =
       record {
@@ -137,13 +137,13 @@ module _ (head : Head) (table : List ℕ) (c : Call) where
       let r = f.room in
       let z : 0 + s.at ≡ s.at = zero-add s.at in
       prepare_stops (capacity table) c.strip (going c) [] 0 (postings_before head table) s.at k.fresh s.there s.quiet (omega arith) (rw (z, u) f.fault)
-      ∙ (undoing_leaves c.strip (take s.at (going c)) Verdict.Passes (0 + s.at + 1) (added (take s.at (going c)) (postings_before head table))
+      ∙ (undoing_leaves c.strip (take s.at (going c)) (Ok tt) (0 + s.at + 1) (added (take s.at (going c)) (postings_before head table))
       ∙ rw z
       (stuck_list c.strip (s.at + 1) (take s.at (going c)) (postings_before head table) (fresh_take s.at (going c) (postings_before head table) k.fresh) w.sorted))
 
   -- the postings at entry, and of the destinations before the failed insertion those whose undo byte is 1
   undo_set :
-      (j : ℕ) (a : Answer) (o : Outcome) →
+      (j : ℕ) (a : Result ℕ Failure) (o : Outcome) →
       o ≡ poisoned_with head table c.record_list a (added (stuck c.strip (j + 1) (take j (going c))) (postings_before head table)) →
       (p : Posting) →
       present p (postings_left o) ≡ (present p (postings_before head table) || present p (postings_of (stuck c.strip (j + 1) (take j (going c)))))
@@ -153,7 +153,7 @@ module _ (head : Head) (table : List ℕ) (c : Call) where
 
   -- each of these destinations by its own byte
   undo_each :
-      Clear head table c → (j : ℕ) (a : Answer) (o : Outcome) →
+      Clear head table c → (j : ℕ) (a : Result ℕ Failure) (o : Outcome) →
       o ≡ poisoned_with head table c.record_list a (added (stuck c.strip (j + 1) (take j (going c))) (postings_before head table)) →
       j < length (going c) → (i : ℕ) → i < j →
       present (get_or (going c) i nowhere).posting (postings_left o) ≡ eqb (byte_at c.strip (j + 1 + (j - (i + 1)))) 1
@@ -213,7 +213,7 @@ module _ (head : Head) (table : List ℕ) (c : Call) where
 
   -- the postings at entry without the recorded destinations whose byte is not 1
   rollback_set :
-      (a : Answer) (o : Outcome) →
+      (a : Result ℕ Failure) (o : Outcome) →
       o ≡ poisoned_with head table c.record_list a (taken_away (freed c.strip 0 (recorded_in c)) (postings_before head table)) →
       (p : Posting) →
       present p (postings_left o) ≡ (present p (postings_before head table) && not (present p (postings_of (freed c.strip 0 (recorded_in c)))))
@@ -235,8 +235,8 @@ module _ (head : Head) (table : List ℕ) (c : Call) where
           let m = length-reverse (recorded_in c) in
           let is =
           k
-          ∙ shown_poisoned c.record_list (rolled_back (undid head table c)) _ _ (ap (λ v. settled v (Answer.Accepted 0)) r.verdict) refl
-          (undoing_leaves c.strip (recorded_in c) Verdict.Passes 0 (postings_before head table))
+          ∙ shown_poisoned c.record_list (rolled_back (undid head table c)) _ _ (ap (λ v. settled v (Ok 0)) r.verdict) refl
+          (undoing_leaves c.strip (recorded_in c) (Ok tt) 0 (postings_before head table))
           in record {
             at = r.at;
             there = omega arith;

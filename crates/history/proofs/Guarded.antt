@@ -1,5 +1,6 @@
 -- Every destination that is inserted or taken back and every source that is removed is guarded: upstream's requirements on its
 -- two primitives.
+use Rattle.std.proofs.Common.{Option, Some, None, Ok, ℕ}
 use Prim.Native.Nat.{ℕ, zero, suc, ◌+◌, ◌<◌}
 use native.Mathlib.Omega.{arith}
 use mathlib.Core.Path.{◌≡◌}
@@ -9,11 +10,9 @@ use mathlib.Mathlib.Data.Bool.Basic.{and_elim_left, and_elim_right}
 use lib.ListN.{length, get_or}
 use lib.Dec.{ltb}
 use borrow.Author.Tests.{ltb-true}
-use Rattle.rules.specs.declared.Key.{Key}
 use Rattle.rules.specs.declared.Change.{Change}
 use Rattle.rules.specs.declared.Guard.{Guard}
 use Rattle.rules.specs.declared.Head.{Head}
-use Rattle.rules.specs.declared.Verdict.{Verdict}
 use Rattle.rules.specs.Orders.{guards, Numbered, named, destination_of, source_of, destinations_from, sources_from, destinations, sources, no_change, recorded, Call, changes_of}
 use Rattle.rules.specs.Checks.{key_held, guarded, publish_checks}
 use Rattle.rules.specs.Calls.{prepare_of, rollback_of, removal_of, publish_of}
@@ -27,11 +26,11 @@ use Rattle.history.proofs.Upstream.{unless_passes, prepare_clauses, rollback_cla
 module _ (bindings : ℕ) (gs : List Guard) where
   -- a posting with a held key of a change whose binding is below the count, in front of others that are guarded
   named_guarded :
-      (i : ℕ) (c : Change) (key : Key) (ds : List Numbered) → c.binding < bindings → key_held c.binding key gs ≡ true →
+      (i : ℕ) (c : Change) (key : Option ℕ) (ds : List Numbered) → c.binding < bindings → key_held c.binding key gs ≡ true →
       AllGuarded bindings gs ds → AllGuarded bindings gs (named i c key ds)
-  named_guarded i c Key.Missing ds b h f k l = f k l
-  named_guarded i c (Key.Named key) ds b h f zero l = record { below = b; holder = held_at c.binding key gs h }
-  named_guarded i c (Key.Named key) ds b h f (suc k) l = f k (omega arith)
+  named_guarded i c None ds b h f k l = f k l
+  named_guarded i c (Some key) ds b h f zero l = record { below = b; holder = held_at c.binding key gs h }
+  named_guarded i c (Some key) ds b h f (suc k) l = f k (omega arith)
 
   -- what guarded says of a change
   guarded_parts :
@@ -93,7 +92,7 @@ module _ (bindings : ℕ) (gs : List Guard) where
       go (b ∷ bs) (suc m) w f = go bs m (rest_valid b bs w) f
 
 module _ (head : Head) (table : List ℕ) (c : Call) where
-  publish_valid : publish_checks head table c ≡ Verdict.Passes → Valid head table c
+  publish_valid : publish_checks head table c ≡ Ok tt → Valid head table c
   publish_valid h = guard_passes _ _ _ (publish_passed head table c h).guarding
 
   -- upstream's valid, of a publish

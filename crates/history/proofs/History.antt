@@ -1,5 +1,6 @@
 -- Right or withheld. Each publish either leaves the index as it was, or is accepted and leaves what it says, or breaks it; by induction
 -- over the calls that makes the history right until it is withheld.
+use Rattle.std.proofs.Common.{Result, Ok, Err, ℕ}
 use Prim.Native.Nat.{ℕ}
 use mathlib.Core.Path.{◌≡◌, refl, sym, ap, ◌∙◌}
 use mathlib.Core.List.{List, [], ◌∷◌, ◌++◌, map}
@@ -13,8 +14,7 @@ use Rattle.strips.specs.Strips.{proper_bytes, proper_strip}
 use Rattle.lent_lists.specs.Written.{written}
 use Rattle.rules.specs.declared.Posting.{Posting}
 use Rattle.rules.specs.declared.Head.{Head}
-use Rattle.rules.specs.declared.Answer.{Answer}
-use Rattle.rules.specs.declared.Verdict.{Verdict}
+use Rattle.rules.specs.declared.Failure.{Failure}
 use Rattle.rules.specs.Postings.{ascending, present, rows_under, counted}
 use Rattle.rules.specs.Table.{postings, well_formed}
 use Rattle.rules.specs.Orders.{Numbered, destinations, sources, change_numbers, Call, lending, changes_of}
@@ -64,7 +64,7 @@ pub data Step (x : Index) (c : Call) : Type 0 where
 pub step : (x : Index) (c : Call) → Step x c
 step x c = go (published x c).answer refl (kind (published x c).answer)
   where
-    go : (a : Answer) → (published x c).answer ≡ a → Kind a → Step x c
+    go : (a : Result ℕ Failure) → (published x c).answer ≡ a → Kind a → Step x c
     go a e (Kind.taken n) = takes ((accepted_exactly x.head x.table c).0 (rw e)) (rw e) (rw e)
     go a e (Kind.kept u n p) =
         let o = publish_as_before x.head x.table c (rw e u) in
@@ -303,19 +303,19 @@ unfolding count_of count_checks first_refusal
 live_count x l binding key =
     rw (open_passes x.head x.table l.formed l.healthy) (go (ltb binding x.head.bindings))
   where
-    given : Answer
-    given = Answer.Accepted (counted binding key (postings_in x))
+    given : Result ℕ Failure
+    given = Ok (counted binding key (postings_in x))
 
-    go : (b : Bool) → settled (or_else (must b (Answer.Guard 0)) Verdict.Passes) given ≡ cond b given (Answer.Guard 0)
+    go : (b : Bool) → settled (or_else (must b (Failure.Guard 0)) (Ok tt)) given ≡ cond b given (Err (Failure.Guard 0))
     go true = refl
     go false = refl
 
 -- a spoilt index refuses everything with 2 and stays
 spoilt_publish :
-    (x : Index) → Spoilt x → (c : Call) → published x c ≡ as_before x.head x.table c.record_list Answer.Poisoned
+    (x : Index) → Spoilt x → (c : Call) → published x c ≡ as_before x.head x.table c.record_list (Err Failure.Poisoned)
 spoilt_publish x s c = publish_poisoned x.head x.table c s.formed s.flagged
 
-spoilt_count : (x : Index) → Spoilt x → (binding key : ℕ) → counted_in x binding key ≡ Answer.Poisoned
+spoilt_count : (x : Index) → Spoilt x → (binding key : ℕ) → counted_in x binding key ≡ Err Failure.Poisoned
 spoilt_count x s = count_poisoned x.head x.table s.formed s.flagged
 
 pub spoilt_after : (x : Index) → Spoilt x → (cs : List Call) → after x cs ≡ x

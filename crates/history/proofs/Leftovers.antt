@@ -1,5 +1,6 @@
 -- What failed steps leave, by their bytes: source removal that stops at a place, undo that goes from the last posting to the first,
 -- and prepare that stops and undoes.
+use Rattle.std.proofs.Common.{Result, Ok, ℕ}
 use Prim.Native.Nat.{ℕ, zero, suc, ◌+◌, ◌-◌, ◌≤◌, ◌<◌}
 use native.Mathlib.Omega.{arith}
 use mathlib.Core.Path.{◌≡◌, refl, sym, ap, ◌∙◌}
@@ -12,8 +13,7 @@ use lib.Dec.{eqb}
 use borrow.Author.Tests.{ne_eqb, eqb-true, eqb-false}
 use Rattle.strips.specs.Strips.{byte_at}
 use Rattle.rules.specs.declared.Posting.{Posting}
-use Rattle.rules.specs.declared.Answer.{Answer}
-use Rattle.rules.specs.declared.Verdict.{Verdict}
+use Rattle.rules.specs.declared.Failure.{Failure}
 use Rattle.rules.specs.Postings.{same, ascending, present, inserted, removed}
 use Rattle.rules.specs.Storage.{removal}
 use Rattle.rules.specs.Orders.{Numbered, postings_of}
@@ -42,7 +42,7 @@ gone_next byte j (inl e) = rw e (omega arith)
 gone_next byte j (inr e) = rw e (omega arith)
 
 -- source removal that fails at a place
-module _ (strip : List ℕ) (clear : Answer) where
+module _ (strip : List ℕ) (clear : Result ℕ Failure) where
   halts_here :
       (d : Numbered) (ds : List Numbered) (byte : ℕ) (ps : List Posting) → (byte ≡ 1) ⊎ (byte ≡ 2) →
       (removal byte d.posting ps).postings ≡ taken_away (take (gone_at byte 0) (d ∷ ds)) ps
@@ -102,7 +102,7 @@ removal_but_one byte p l = go (byte_is byte) (either (eqb byte 1))
 module _ (strip : List ℕ) where
   -- what an undo leaves does not hang on the verdict that it began with
   undoing_verdict :
-      (ds : List Numbered) (v w : Verdict) (read : ℕ) (ps : List Posting) →
+      (ds : List Numbered) (v w : Result Unit Failure) (read : ℕ) (ps : List Posting) →
       (undoing strip ds v read ps).postings ≡ (undoing strip ds w read ps).postings
   unfolding undoing
   undoing_verdict [] v w read ps = refl
@@ -124,19 +124,19 @@ module _ (strip : List ℕ) where
 
   -- from the last to the first, and on with what was there before
   undoing_back :
-      (ds done : List Numbered) (v : Verdict) (read : ℕ) (ps : List Posting) →
-      (undoing strip (reverse_aux ds done) v read ps).postings ≡ (undoing strip done Verdict.Passes (read + length ds) (taken_away (freed strip read ds) ps)).postings
+      (ds done : List Numbered) (v : Result Unit Failure) (read : ℕ) (ps : List Posting) →
+      (undoing strip (reverse_aux ds done) v read ps).postings ≡ (undoing strip done (Ok tt) (read + length ds) (taken_away (freed strip read ds) ps)).postings
   unfolding undoing freed taken_away
-  undoing_back [] done v read ps = let e : read + 0 ≡ read = omega arith in rw e (undoing_verdict done v Verdict.Passes read ps)
+  undoing_back [] done v read ps = let e : read + 0 ≡ read = omega arith in rw e (undoing_verdict done v (Ok tt) read ps)
   undoing_back (d ∷ ds) done v read ps =
       let e : read + length ds + 1 ≡ read + suc (length ds) = omega arith in
       undoing_back ds (d ∷ done) v read ps
-      ∙ (undoing_verdict done _ Verdict.Passes (read + length ds + 1) _
-      ∙ (λ i. (undoing strip done Verdict.Passes (e i) (freed_next d ds read ps i)).postings))
+      ∙ (undoing_verdict done _ (Ok tt) (read + length ds + 1) _
+      ∙ (λ i. (undoing strip done (Ok tt) (e i) (freed_next d ds read ps i)).postings))
 
   -- an undo from the last posting to the first leaves the list without those whose byte is not 1
   pub undoing_leaves :
-      (ds : List Numbered) (v : Verdict) (read : ℕ) (ps : List Posting) →
+      (ds : List Numbered) (v : Result Unit Failure) (read : ℕ) (ps : List Posting) →
       (undoing strip (reverse ds) v read ps).postings ≡ taken_away (freed strip read ds) ps
   unfolding undoing
   undoing_leaves ds v read ps = undoing_back ds [] v read ps
@@ -146,7 +146,7 @@ pub prepare_stops :
     (capacity : ℕ) (strip : List ℕ) (ds done : List Numbered) (read : ℕ) (ps : List Posting) (k : ℕ) → Fresh ds ps → k < length ds →
     Quiet strip read (read + k) → length ps + k ≤ capacity →
     (byte_at strip (read + k) ≡ 0 → ⊥) ⊎ (length ps + k ≡ capacity) →
-    (preparing capacity strip ds done read ps).postings ≡ (undoing strip (reverse_aux (take k ds) done) Verdict.Passes (read + k + 1) (added (take k ds) ps)).postings
+    (preparing capacity strip ds done read ps).postings ≡ (undoing strip (reverse_aux (take k ds) done) (Ok tt) (read + k + 1) (added (take k ds) ps)).postings
 unfolding added
 prepare_stops capacity strip [] done read ps k f l q m e = absurd (omega arith)
 prepare_stops capacity strip (d ∷ ds) done read ps zero f l q m e =
@@ -155,7 +155,7 @@ prepare_stops capacity strip (d ∷ ds) done read ps zero f l q m e =
   where
     go :
         (byte_at strip read ≡ 0) ⊎ (byte_at strip read ≡ 0 → ⊥) → (byte_at strip read ≡ 0 → ⊥) ⊎ (length ps + 0 ≡ capacity) →
-        (preparing capacity strip (d ∷ ds) done read ps).postings ≡ (undoing strip done Verdict.Passes (read + 1) ps).postings
+        (preparing capacity strip (d ∷ ds) done read ps).postings ≡ (undoing strip done (Ok tt) (read + 1) ps).postings
     go (inr h) k = rw (preparing_store strip d ds read ps capacity done h)
     go (inl h) (inl n) = absurd (n h)
     go (inl h) (inr n) =

@@ -1,12 +1,12 @@
 -- Each call answers with the numbers of its own list alone, whatever it is lent.
+use Rattle.std.proofs.Common.{Result, ℕ}
 use Prim.Native.Nat.{ℕ}
 use native.Mathlib.Omega.{arith}
 use mathlib.Core.Path.{◌≡◌, refl}
 use mathlib.Core.List.{List, []}
 use mathlib.Core.Bool.{Bool, true}
 use Rattle.rules.specs.declared.Head.{Head}
-use Rattle.rules.specs.declared.Answer.{Answer}
-use Rattle.rules.specs.declared.Verdict.{Verdict}
+use Rattle.rules.specs.declared.Failure.{Failure}
 use Rattle.rules.specs.Table.{capacity}
 use Rattle.rules.specs.Orders.{destinations, sources, Call, changes_of}
 use Rattle.rules.specs.Answers.{told_of}
@@ -20,15 +20,15 @@ use Rattle.history.specs.Numbers.{prepare_numbers, rollback_numbers, removal_num
 use Rattle.history.proofs.Acceptance.{publish_answered, prepare_answered, rollback_answered, removal_answered, count_answered}
 
 -- the answer's number is one of these
-abbrev one_of : List ℕ → Answer → Bool
+abbrev one_of : List ℕ → Result ℕ Failure → Bool
 one_of ns a = among (told_of a).answer ns
 
 -- a call's answer, by its checks and by how it ends
 answered_among :
-    (ns : List ℕ) (v : Verdict) (E : Answer → Type 0) → Says (one_of ns) v → ((a : Answer) → E a → one_of ns a ≡ true) → (a : Answer) →
+    (ns : List ℕ) (v : Result Unit Failure) (E : Result ℕ Failure → Type 0) → Says (one_of ns) v → ((a : Result ℕ Failure) → E a → one_of ns a ≡ true) → (a : Result ℕ Failure) →
     Answered v E a → one_of ns a ≡ true
-answered_among ns v E f g a (Answered.refused e) = f a e
-answered_among ns v E f g a (Answered.ended e k) = g a k
+answered_among ns v E f g a (Answered.refused why e) = f why e
+answered_among ns v E f g a (Answered.ended _ e k) = g a k
 
 module _ (head : Head) (table : List ℕ) (c : Call) where
   -- prepare
@@ -42,7 +42,7 @@ module _ (head : Head) (table : List ℕ) (c : Call) where
   prepare_numbers_lem = answered_among prepare_numbers (prepare_checks head table c) _ prepare_numbered ends _ (prepare_answered head table c)
     where
       ends :
-          (a : Answer) → Ends (capacity table) head.used c.strip (destinations (changes_of c)) [] a →
+          (a : Result ℕ Failure) → Ends (capacity table) head.used c.strip (destinations (changes_of c)) [] a →
           among (told_of a).answer prepare_numbers ≡ true
       ends a (Ends.accepted r q) = refl
       ends a (Ends.store k f x u) = refl
@@ -60,7 +60,7 @@ module _ (head : Head) (table : List ℕ) (c : Call) where
   unfolding among
   rollback_numbers_lem = answered_among rollback_numbers (rollback_checks head table c) _ rollback_numbered ends _ (rollback_answered head table c)
     where
-      ends : (a : Answer) → RollbackEnds c.strip (recorded_back c) a → among (told_of a).answer rollback_numbers ≡ true
+      ends : (a : Result ℕ Failure) → RollbackEnds c.strip (recorded_back c) a → among (told_of a).answer rollback_numbers ≡ true
       ends a (RollbackEnds.accepted q) = refl
       ends a (RollbackEnds.undo k h x l) = refl
 
@@ -74,7 +74,7 @@ module _ (head : Head) (table : List ℕ) (c : Call) where
   unfolding among
   removal_numbers_lem = answered_among removal_numbers (removal_checks head table c) _ removal_numbered ends _ (removal_answered head table c)
     where
-      ends : (a : Answer) → RemovalEnds c.strip (sources (changes_of c)) a → among (told_of a).answer removal_numbers ≡ true
+      ends : (a : Result ℕ Failure) → RemovalEnds c.strip (sources (changes_of c)) a → among (told_of a).answer removal_numbers ≡ true
       ends a (RemovalEnds.accepted q) = refl
       ends a (RemovalEnds.source j h l x) = refl
 
@@ -90,7 +90,7 @@ module _ (head : Head) (table : List ℕ) (c : Call) where
   publish_numbers_lem = answered_among publish_numbers (publish_checks head table c) _ publish_numbered ends _ (publish_answered head table c)
     where
       ends :
-          (a : Answer) → Ends (capacity table) head.used c.strip (destinations (changes_of c)) (sources (changes_of c)) a →
+          (a : Result ℕ Failure) → Ends (capacity table) head.used c.strip (destinations (changes_of c)) (sources (changes_of c)) a →
           among (told_of a).answer publish_numbers ≡ true
       ends a (Ends.accepted r q) = refl
       ends a (Ends.store k f x u) = refl

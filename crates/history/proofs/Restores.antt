@@ -1,5 +1,6 @@
 -- A clean rollback of an accepted prepare restores table and head exactly. The caller lends the part of its record list that
 -- prepare named.
+use Rattle.std.proofs.Common.{Ok}
 use Prim.Native.Nat.{ℕ, ◌+◌}
 use native.Mathlib.Omega.{arith}
 use mathlib.Core.Path.{◌≡◌, ap, ◌∙◌}
@@ -9,8 +10,6 @@ use lib.ListN.{length, take, drop, length-map, length-reverse}
 use lib.Seq.{take_at}
 use Rattle.strips.specs.Strips.{proper_strip}
 use Rattle.rules.specs.declared.Head.{Head}
-use Rattle.rules.specs.declared.Answer.{Answer}
-use Rattle.rules.specs.declared.Verdict.{Verdict}
 use Rattle.rules.specs.Table.{postings, laid_out}
 use Rattle.rules.specs.Orders.{Numbered, destinations, change_numbers, recorded, Call, changes_of}
 use Rattle.rules.specs.Answers.{is_accepted, poisons, settled}
@@ -45,17 +44,17 @@ module _ (head : Head) (table : List ℕ) (c : Call) (strip : List ℕ) (ok : is
   healthy : (prepare_of head table c).head.poisoned ≡ head.poisoned
   healthy = (prepare_stable head table c).flag ∙ rw well.named
 
-  record_takes : record_check (changes_of c) (back_of c (prepare_of head table c) strip).record_list ≡ Verdict.Passes
+  record_takes : record_check (changes_of c) (back_of c (prepare_of head table c) strip).record_list ≡ Ok tt
   unfolding record_check
   record_takes = rw part_record (record_taken (changes_of c))
 
-  opens : opening_checks (prepare_of head table c).head (prepare_of head table c).table ≡ Verdict.Passes
+  opens : opening_checks (prepare_of head table c).head (prepare_of head table c).table ≡ Ok tt
   opens = open_passes _ _ (prepare_well_formed head table c clear.formed) (healthy ∙ clear.healthy)
 
   -- the checks of the prepare that rollback has too passed then, and pass now
   checks_pass :
-      proper_strip strip ≡ true → prepare_checks head table c ≡ Verdict.Passes →
-      rollback_checks (prepare_of head table c).head (prepare_of head table c).table (back_of c (prepare_of head table c) strip) ≡ Verdict.Passes
+      proper_strip strip ≡ true → prepare_checks head table c ≡ Ok tt →
+      rollback_checks (prepare_of head table c).head (prepare_of head table c).table (back_of c (prepare_of head table c) strip) ≡ Ok tt
   checks_pass s h =
       let p = prepare_passed head table c h in
       rollback_passes _ _ _ opens (lent_passes _ _ _ (lent_proper _ _ _ p.lent).0 s)
@@ -73,8 +72,8 @@ module _ (head : Head) (table : List ℕ) (c : Call) (strip : List ℕ) (ok : is
 
   -- shown again, the postings before are the table before
   shown_before :
-      (list : List ℕ) (s : Stage) → s.answer ≡ Answer.Accepted 0 → s.postings ≡ postings_before head table →
-      shown (prepare_of head table c).head (prepare_of head table c).table list s ≡ as_before head table list (Answer.Accepted 0)
+      (list : List ℕ) (s : Stage) → s.answer ≡ Ok 0 → s.postings ≡ postings_before head table →
+      shown (prepare_of head table c).head (prepare_of head table c).table list s ≡ as_before head table list (Ok 0)
   shown_before list s a e =
       let w = well_formed_parts head table clear.formed in
       let k = prepare_stable head table c in
@@ -92,7 +91,7 @@ module _ (head : Head) (table : List ℕ) (c : Call) (strip : List ℕ) (ok : is
   -- CLEAN UNDO: table and head are those from before the prepare, number for number
   pub rollback_restores :
       proper_strip strip ≡ true → Quiet strip 0 (length (destinations (changes_of c))) →
-      rollback_of (prepare_of head table c).head (prepare_of head table c).table (back_of c (prepare_of head table c) strip) ≡ as_before head table (back_of c (prepare_of head table c) strip).record_list (Answer.Accepted 0)
+      rollback_of (prepare_of head table c).head (prepare_of head table c).table (back_of c (prepare_of head table c) strip) ≡ as_before head table (back_of c (prepare_of head table c) strip).record_list (Ok 0)
   rollback_restores s q = go (rollback_of ohead otable back) (rolls_back ohead otable back)
     where
       ohead : Head
@@ -107,13 +106,13 @@ module _ (head : Head) (table : List ℕ) (c : Call) (strip : List ℕ) (ok : is
       as_many : length (recorded_back back) ≡ length (destinations (changes_of c))
       as_many = ap length undoes ∙ length-reverse (destinations (changes_of c))
 
-      go : (o : Outcome) → RollsBack ohead otable back o → o ≡ as_before head table back.record_list (Answer.Accepted 0)
+      go : (o : Outcome) → RollsBack ohead otable back o → o ≡ as_before head table back.record_list (Ok 0)
       go o (RollsBack.refused a e k) =
           let p = checks_pass s well.passes in
           impossible (cc)
       go o (RollsBack.clean e r k) =
           k
-          ∙ shown_before back.record_list (rolled_back (undid ohead otable back)) (ap (λ v. settled v (Answer.Accepted 0)) r.verdict)
+          ∙ shown_before back.record_list (rolled_back (undid ohead otable back)) (ap (λ v. settled v (Ok 0)) r.verdict)
           (r.leaves ∙ (ap (λ l. taken_away l (postings ohead.used otable)) undoes ∙ taken_back))
       go o (RollsBack.failed e r k) =
           let t = r.there in

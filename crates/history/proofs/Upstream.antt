@@ -1,4 +1,5 @@
 -- Upstream's clauses hold of every outcome, and prepare and rollback undo each other exactly.
+use Rattle.std.proofs.Common.{Result, Ok, Err, ℕ}
 use Prim.Native.Nat.{ℕ}
 use native.Mathlib.Nat.{zero-add}
 use mathlib.Core.Path.{◌≡◌, refl, sym, ap, ◌∙◌}
@@ -10,8 +11,7 @@ use Rattle.lent_lists.specs.Written.{written}
 use Rattle.rules.specs.declared.Posting.{Posting}
 use Rattle.rules.specs.declared.Change.{Change}
 use Rattle.rules.specs.declared.Head.{Head}
-use Rattle.rules.specs.declared.Answer.{Answer}
-use Rattle.rules.specs.declared.Verdict.{Verdict}
+use Rattle.rules.specs.declared.Failure.{Failure}
 use Rattle.rules.specs.Postings.{present}
 use Rattle.rules.specs.Table.{capacity, postings, laid_out}
 use Rattle.rules.specs.Orders.{Numbered, destinations, sources, postings_of, change_numbers, recorded, Call, changes_of}
@@ -45,10 +45,10 @@ prefix_record cs =
     }
 
 -- an answer that is neither accepted nor poisoning leaves all as before
-other_unchanged : (a : Answer) → is_accepted a ≡ false → poisons a ≡ false → is_unchanged a ≡ true
+other_unchanged : (a : Result ℕ Failure) → is_accepted a ≡ false → poisons a ≡ false → is_unchanged a ≡ true
 other_unchanged a h k = go a h k (kind a)
   where
-    go : (b : Answer) → is_accepted b ≡ false → poisons b ≡ false → Kind b → is_unchanged b ≡ true
+    go : (b : Result ℕ Failure) → is_accepted b ≡ false → poisons b ≡ false → Kind b → is_unchanged b ≡ true
     go b x y (Kind.taken n) = absurd (clash true refl x)
     go b x y (Kind.kept u n p) = u
     go b x y (Kind.broken u n p) = absurd (clash (poisons b) p y)
@@ -63,7 +63,7 @@ module _ (head : Head) (table : List ℕ) (c : Call) where
   accepted_flag : (o : Outcome) → Stable head table o → is_accepted o.answer ≡ true → o.head.poisoned ≡ head.poisoned
   accepted_flag o s h = s.flag ∙ go o.answer h (kind o.answer)
     where
-      go : (a : Answer) → is_accepted a ≡ true → Kind a → cond (poisons a) 1 head.poisoned ≡ head.poisoned
+      go : (a : Result ℕ Failure) → is_accepted a ≡ true → Kind a → cond (poisons a) 1 head.poisoned ≡ head.poisoned
       go a x (Kind.taken n) = refl
       go a x (Kind.kept u n p) = absurd (clash (is_accepted a) x n)
       go a x (Kind.broken u n p) = absurd (clash (is_accepted a) x n)
@@ -75,33 +75,33 @@ module _ (head : Head) (table : List ℕ) (c : Call) where
   shown_left P s h = rw (postings_laid_out (length table) s.postings) h
 
   unless_left :
-      (P : List Posting → Type 0) (v : Verdict) (list : List ℕ) (s : Stage) → P (postings_before head table) → P s.postings →
+      (P : List Posting → Type 0) (v : Result Unit Failure) (list : List ℕ) (s : Stage) → P (postings_before head table) → P s.postings →
       P (postings_left (unless_refused v (as_before head table c.record_list) (shown head table list s)))
-  unless_left P Verdict.Passes list s h k = shown_left P s k
-  unless_left P (Verdict.Refused a) list s h k = h
+  unless_left P (Ok _) list s h k = shown_left P s k
+  unless_left P (Err a) list s h k = h
 
   refused_not :
-      {A : Type 0} (v : Verdict) (o : Outcome) (a : Answer) → Says is_refusal v → v ≡ Verdict.Refused a →
-      o ≡ as_before head table c.record_list a → is_accepted o.answer ≡ true → A
+      {A : Type 0} (v : Result Unit Failure) (o : Outcome) (a : Failure) → Says is_refusal v → v ≡ Err a →
+      o ≡ as_before head table c.record_list (Err a) → is_accepted o.answer ≡ true → A
   refused_not v o a p e k h =
-      absurd (clash (is_accepted a) (rw k at h) (unchanged_accepts_not a (refusal_unchanged a (p a e))))
+      absurd (clash (is_accepted (Err a)) (rw k at h) (unchanged_accepts_not (Err a) (refusal_unchanged (Err a) (p a e))))
 
   -- a call that no check refused has passed them all
   pub unless_passes :
-      (v : Verdict) (o : Outcome) → Says is_refusal v →
-      is_refusal (unless_refused v (as_before head table c.record_list) o).answer ≡ false → v ≡ Verdict.Passes
-  unless_passes Verdict.Passes o p h = refl
-  unless_passes (Verdict.Refused a) o p h = absurd (clash (is_refusal a) (p a refl) h)
+      (v : Result Unit Failure) (o : Outcome) → Says is_refusal v →
+      is_refusal (unless_refused v (as_before head table c.record_list) o).answer ≡ false → v ≡ Ok tt
+  unless_passes (Ok _) o p h = refl
+  unless_passes (Err a) o p h = absurd (clash (is_refusal (Err a)) (p a refl) h)
 
-  rollback_passes : is_refusal (rollback_of head table c).answer ≡ false → rollback_checks head table c ≡ Verdict.Passes
+  rollback_passes : is_refusal (rollback_of head table c).answer ≡ false → rollback_checks head table c ≡ Ok tt
   unfolding rollback_of
   rollback_passes h = unless_passes (rollback_checks head table c) _ (rollback_proper head table c) h
 
-  prepare_passes : is_refusal (prepare_of head table c).answer ≡ false → prepare_checks head table c ≡ Verdict.Passes
+  prepare_passes : is_refusal (prepare_of head table c).answer ≡ false → prepare_checks head table c ≡ Ok tt
   unfolding prepare_of
   prepare_passes h = unless_passes (prepare_checks head table c) _ (prepare_proper head table c) h
 
-  removal_passes : is_refusal (removal_of head table c).answer ≡ false → removal_checks head table c ≡ Verdict.Passes
+  removal_passes : is_refusal (removal_of head table c).answer ≡ false → removal_checks head table c ≡ Ok tt
   unfolding removal_of
   removal_passes h = unless_passes (removal_checks head table c) _ (removal_proper head table c) h
 
@@ -133,9 +133,9 @@ module _ (head : Head) (table : List ℕ) (c : Call) where
       go o u (Removes.halted e r k) = absurd (clash (is_accepted o.answer) u (rw (k, r.answers)))
 
   pub record PreparedWell (o : Outcome) : Type 0 where
-    pub passes : prepare_checks head table c ≡ Verdict.Passes
+    pub passes : prepare_checks head table c ≡ Ok tt
     pub postings : postings_left o ≡ added (going c) (postings_before head table)
-    pub named : o.answer ≡ Answer.Accepted (length (going c))
+    pub named : o.answer ≡ Ok (length (going c))
     pub whole : o ≡ shown head table (written (change_numbers (going c)) c.record_list) (prepared head table c)
     pub leaves : (prepared head table c).postings ≡ added (going c) (postings_before head table)
 
@@ -148,7 +148,7 @@ module _ (head : Head) (table : List ℕ) (c : Call) where
           record {
             passes = e;
             postings = rw k (shown_left (λ l. l ≡ added (going c) (postings_before head table)) (prepared head table c) r.leaves);
-            named = ap (λ (x : Outcome). x.answer) k ∙ (r.answers ∙ ap Answer.Accepted (zero-add (length (going c))));
+            named = ap (λ (x : Outcome). x.answer) k ∙ (r.answers ∙ ap Ok (zero-add (length (going c))));
             whole = k;
             leaves = r.leaves;
           }
@@ -161,7 +161,7 @@ module _ (head : Head) (table : List ℕ) (c : Call) where
       unless_left (λ l. RemovedOnly (postings_before head table) l (postings_of (recorded (changes_of c) c.record_list))) (rollback_checks head table c) c.record_list
       (rolled_back (undid head table c))
       (removed_only_same (postings_before head table) _)
-      (turned (undo_removes c.strip (recorded_back c) Verdict.Passes 0 (postings_before head table)))
+      (turned (undo_removes c.strip (recorded_back c) (Ok tt) 0 (postings_before head table)))
     where
       turned :
           RemovedOnly (postings_before head table) (undid head table c).postings (postings_of (recorded_back c)) →
@@ -172,7 +172,7 @@ module _ (head : Head) (table : List ℕ) (c : Call) where
             kept = λ p h k. r.kept p h (present_reverse p (recorded (changes_of c) c.record_list) ∙ k);
           }
 
-  rollback_valid : rollback_checks head table c ≡ Verdict.Passes → Valid head table c × ValidIndices head table c
+  rollback_valid : rollback_checks head table c ≡ Ok tt → Valid head table c × ValidIndices head table c
   rollback_valid h =
       let p = rollback_passed head table c h in
       (guard_passes _ _ _ p.2, record_passes _ _ p.3)
@@ -194,7 +194,7 @@ module _ (head : Head) (table : List ℕ) (c : Call) where
 
   -- prepare_index_destinations
   prepare_valid :
-      prepare_checks head table c ≡ Verdict.Passes → Valid head table c × UniqueDestinations head table c × Disjoint head table c
+      prepare_checks head table c ≡ Ok tt → Valid head table c × UniqueDestinations head table c × Disjoint head table c
   prepare_valid h =
       let p = prepare_passed head table c h in
       let a = arriving_parts _ _ p.arriving in
@@ -235,14 +235,14 @@ module _ (head : Head) (table : List ℕ) (c : Call) where
         ok_flag = accepted_flag (prepare_of head table c) (prepare_stable head table c);
         ok_postings = λ h p. ap (present p) (prepare_accepted h).postings ∙ present_added p (going c) (postings_before head table);
         ok_record = λ h. ap (λ (o : Outcome). o.record_list) (prepare_accepted h).whole;
-        ok_named = λ h. (prepare_accepted h).named ∙ ap Answer.Accepted (sym (length-map (going c) (λ (d : Numbered). d.number)));
+        ok_named = λ h. (prepare_accepted h).named ∙ ap Ok (sym (length-map (going c) (λ (d : Numbered). d.number)));
         errors = errors_of (prepare_of head table c) (prepare_stable head table c) (prepare_as_before head table c);
         keeps = prepare_keeps;
         inside = prepare_within;
       }
 
   -- remove_index_sources
-  removal_valid : removal_checks head table c ≡ Verdict.Passes → Valid head table c
+  removal_valid : removal_checks head table c ≡ Ok tt → Valid head table c
   removal_valid h = guard_passes _ _ _ (removal_passed head table c h).2
 
   removal_removes : RemovedOnly (postings_before head table) (postings_left (removal_of head table c)) (postings_of (sources (changes_of c)))
@@ -251,7 +251,7 @@ module _ (head : Head) (table : List ℕ) (c : Call) where
       unless_left (λ l. RemovedOnly (postings_before head table) l (postings_of (sources (changes_of c)))) (removal_checks head table c) c.record_list
       (removed_alone head table c)
       (removed_only_same (postings_before head table) _)
-      (remove_removes c.strip (Answer.Accepted 0) (leaving c) 0 (postings_before head table))
+      (remove_removes c.strip (Ok 0) (leaving c) 0 (postings_before head table))
 
   pub removal_clauses : RemovalClauses head table c (removal_of head table c)
   removal_clauses =

@@ -1,11 +1,11 @@
 -- What a storage failure leaves: after a 12 and after a 13 exactly which postings stand in the table, told by the bytes of the
 -- strip and, where an insertion finds no room, by capacity and used. No step of prepare, undo or source removal is named here.
-use Rattle.std.specs.Prelude.{ℕ, ◌+◌, ◌-◌, ◌<◌, ◌≡◌, List, [], ◌∷◌, reverse, true, false, cond, not, ◌&&◌, ◌||◌, length, get_or, take, eqb}
+use Rattle.std.specs.Prelude.{ℕ, ◌+◌, ◌-◌, ◌<◌, ◌≡◌, List, [], ◌∷◌, reverse, true, false, cond, not, ◌&&◌, ◌||◌, length, get_or, take, eqb, Result, Err}
 use Rattle.strips.specs.Strips.{byte_at}
 use Rattle.lent_lists.specs.Written.{written}
 use Rattle.rules.specs.declared.Posting.{Posting}
 use Rattle.rules.specs.declared.Head.{Head}
-use Rattle.rules.specs.declared.Answer.{Answer}
+use Rattle.rules.specs.declared.Failure.{Failure}
 use Rattle.rules.specs.Postings.{same, present}
 use Rattle.rules.specs.Table.{capacity, laid_out}
 use Rattle.rules.specs.Orders.{Numbered, destinations, sources, postings_of, change_numbers, recorded, Call, changes_of}
@@ -16,7 +16,7 @@ use Rattle.history.specs.Upstream.{postings_left}
 
 -- all that is seen after a 12 or 13 that left these postings and this record list: the poison flag is set, the binding count and
 -- the size are as before
-abbrev pub poisoned_with : Head → List ℕ → List ℕ → Answer → List Posting → Outcome
+abbrev pub poisoned_with : Head → List ℕ → List ℕ → Result ℕ Failure → List Posting → Outcome
 poisoned_with head table list a ps =
     record { answer = a; head = head_with head (length ps) 1; table = laid_out (length table) ps; record_list = list }
 
@@ -33,7 +33,7 @@ pub record SourceLeaves (head : Head) (table list strip : List ℕ) (ds ss : Lis
   pub fault : byte_at strip (length ds + at) ≡ 0 → ⊥
   pub outcome :
       o ≡
-      poisoned_with head table list (Answer.Source (number_at ss at)) (taken_away (take (gone_at (byte_at strip (length ds + at)) at) ss) (added ds (postings_before head table)))
+      poisoned_with head table list (Err (Failure.Source (number_at ss at))) (taken_away (take (gone_at (byte_at strip (length ds + at)) at) ss) (added ds (postings_before head table)))
   pub set :
       (p : Posting) →
       present p (postings_left o) ≡
@@ -76,7 +76,7 @@ module _ (head : Head) (table : List ℕ) (c : Call) where
     pub noisy : Noisy c.strip (at + 1) (at + 1 + at)
     pub outcome :
         o ≡
-        poisoned_with head table c.record_list (Answer.Undo (number_at (destinations (changes_of c)) at)) (added (stuck c.strip (at + 1) (take at (destinations (changes_of c)))) (postings_before head table))
+        poisoned_with head table c.record_list (Err (Failure.Undo (number_at (destinations (changes_of c)) at))) (added (stuck c.strip (at + 1) (take at (destinations (changes_of c)))) (postings_before head table))
     pub set :
         (p : Posting) →
         present p (postings_left o) ≡
@@ -95,7 +95,7 @@ module _ (head : Head) (table : List ℕ) (c : Call) where
     pub last : Quiet c.strip (at + 1) (length (recorded_in c))
     pub outcome :
         o ≡
-        poisoned_with head table c.record_list (Answer.Undo (number_at (reverse (recorded_in c)) at)) (taken_away (freed c.strip 0 (recorded_in c)) (postings_before head table))
+        poisoned_with head table c.record_list (Err (Failure.Undo (number_at (reverse (recorded_in c)) at))) (taken_away (freed c.strip 0 (recorded_in c)) (postings_before head table))
     pub set :
         (p : Posting) →
         present p (postings_left o) ≡ (present p (postings_before head table) && not (present p (postings_of (freed c.strip 0 (recorded_in c)))))

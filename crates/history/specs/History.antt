@@ -1,10 +1,10 @@
 -- Right or withheld: what can be said of a table that only publish calls write. All words here are over the rules of one
 -- publish and one count; there is no second model.
-use Rattle.std.specs.Prelude.{ℕ, ◌+◌, ◌≤◌, ◌≡◌, List, [], ◌∷◌, ◌++◌, map, Bool, true, false, cond, not, ◌&&◌, ◌||◌, length, take, ltb}
+use Rattle.std.specs.Prelude.{ℕ, ◌+◌, ◌≤◌, ◌≡◌, List, [], ◌∷◌, ◌++◌, map, Bool, true, false, cond, not, ◌&&◌, ◌||◌, length, take, ltb, Result, Ok, Err}
 use Rattle.strips.specs.Strips.{proper_strip}
 use Rattle.rules.specs.declared.Posting.{Posting}
 use Rattle.rules.specs.declared.Head.{Head}
-use Rattle.rules.specs.declared.Answer.{Answer}
+use Rattle.rules.specs.declared.Failure.{Failure}
 use Rattle.rules.specs.Postings.{present, counted}
 use Rattle.rules.specs.Table.{postings, laid_out, well_formed}
 use Rattle.rules.specs.Orders.{destinations, sources, postings_of, Call, changes_of}
@@ -24,7 +24,7 @@ abbrev pub published : Index → Call → Outcome
 published x c = publish_of x.head x.table c
 
 -- what a count answers there
-abbrev pub counted_in : Index → ℕ → ℕ → Answer
+abbrev pub counted_in : Index → ℕ → ℕ → Result ℕ Failure
 counted_in x binding key = count_of x.head x.table binding key
 
 -- the postings that it holds
@@ -77,9 +77,9 @@ said_of (c ∷ cs) p there =
     ((there || present p (postings_of (destinations (changes_of c)))) && not (present p (postings_of (sources (changes_of c)))))
 
 -- the count of these postings under a binding and key; 6 where the binding is not below the index's count
-abbrev pub own_count : Index → List Posting → ℕ → ℕ → Answer
+abbrev pub own_count : Index → List Posting → ℕ → ℕ → Result ℕ Failure
 own_count x ps binding key =
-    cond (ltb binding x.head.bindings) (Answer.Accepted (counted binding key ps)) (Answer.Guard 0)
+    cond (ltb binding x.head.bindings) (Ok (counted binding key ps)) (Err (Failure.Guard 0))
 
 -- the index of this size and binding count that holds these postings, unpoisoned
 abbrev pub holding : Index → List Posting → Index
@@ -178,9 +178,9 @@ pub record Withheld (x : Index) (start : List Posting) (cs : List Call) : Type 0
   pub break : Break x start cs
   -- every publish is refused as poisoned and changes nothing
   pub publishes :
-      (c : Call) → published (after x cs) c ≡ as_before (after x cs).head (after x cs).table c.record_list Answer.Poisoned
+      (c : Call) → published (after x cs) c ≡ as_before (after x cs).head (after x cs).table c.record_list (Err Failure.Poisoned)
   -- so is every count
-  pub counts : (binding key : ℕ) → counted_in (after x cs) binding key ≡ Answer.Poisoned
+  pub counts : (binding key : ℕ) → counted_in (after x cs) binding key ≡ Err Failure.Poisoned
   -- and table and head stay fixed, whatever is called
   pub fixed : (more : List Call) → after x (cs ++ more) ≡ after x cs
 

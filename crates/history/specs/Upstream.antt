@@ -1,12 +1,10 @@
 -- Upstream's contracts of the posting functions, clause by clause, said of the outcome of a call. What upstream requires is
 -- checked here and refused; so it holds wherever no check refused, before the first insertion or removal.
-use Rattle.std.specs.Prelude.{ℕ, ◌<◌, ◌≡◌, List, [], true, false, not, ◌&&◌, ◌||◌, length, get_or, take}
+use Rattle.std.specs.Prelude.{ℕ, ◌<◌, ◌≡◌, List, [], true, false, not, ◌&&◌, ◌||◌, length, get_or, take, Ok}
 use Rattle.lent_lists.specs.Written.{written}
 use Rattle.rules.specs.declared.Posting.{Posting}
 use Rattle.rules.specs.declared.Head.{Head}
-use Rattle.rules.specs.declared.Answer.{Answer}
 use Rattle.rules.specs.declared.Change.{Change}
-use Rattle.rules.specs.declared.Verdict.{Verdict}
 use Rattle.rules.specs.Postings.{present}
 use Rattle.rules.specs.Table.{postings}
 use Rattle.rules.specs.Orders.{guards, destinations, sources, postings_of, change_numbers, no_change, recorded, Call, changes_of}
@@ -85,7 +83,7 @@ module _ (head : Head) (table : List ℕ) (c : Call) where
         present p (postings_left o) ≡ (present p (postings_before head table) || present p destination_set)
     pub ok_record :
         is_accepted o.answer ≡ true → o.record_list ≡ written (change_numbers (destinations (changes_of c))) c.record_list
-    pub ok_named : is_accepted o.answer ≡ true → o.answer ≡ Answer.Accepted (length (change_numbers (destinations (changes_of c))))
+    pub ok_named : is_accepted o.answer ≡ true → o.answer ≡ Ok (length (change_numbers (destinations (changes_of c))))
     pub errors : Errors o
     pub keeps : (p : Posting) → present p (postings_before head table) ≡ true → present p (postings_left o) ≡ true
     pub inside :
@@ -106,7 +104,7 @@ module _ (head : Head) (table : List ℕ) (c : Call) where
 -- prefix_record, of the record that an accepted prepare writes
 pub record PrefixRecord (cs : List Change) (ns : List ℕ) : Type 0 where
   -- valid_indices and its bound: rollback takes it
-  pub indices : record_from 0 cs [] ns ≡ Verdict.Passes
+  pub indices : record_from 0 cs [] ns ≡ Ok tt
   -- it ascends, so the order is fixed and nothing stands twice
   pub ascends : rising 0 ns ≡ true
   -- it holds exactly the changes that have an after

@@ -8,15 +8,14 @@ use mathlib.Core.List.{List}
 use mathlib.Core.Bool.{Bool, true, false}
 use lib.ListN.{length}
 use lib.Dec.{leb}
+use Rattle.std.proofs.Common.{Result, Ok, Err}
 use borrow.Author.Tests.{leb-true, leb-false}
 use Rattle.booleans.proofs.Tests.{clash}
 use Rattle.lane_rules.specs.declared.View.{View}
-use Rattle.lane_rules.specs.declared.Ended.{Ended}
-use Rattle.lane_rules.specs.declared.Answer.{Answer}
-use Rattle.lane_rules.specs.declared.Verdict.{Verdict}
+use Rattle.lane_rules.specs.declared.Failure.{Failure}
 use Rattle.lane_rules.specs.Answers.{told_of, is_accepted}
 use Rattle.lane_rules.specs.Passes.{cached_pass}
-use Rattle.lane_rules.specs.Rounds.{round, rounds, detaching}
+use Rattle.lane_rules.specs.Rounds.{round, rounds, detaching, Ended}
 use Rattle.lane_rules.specs.Calls.{entry_checks, detach_of}
 use Rattle.lane_laws.specs.Clauses.{AllBelow, is_refusal}
 use Rattle.lane_laws.specs.Ends.{HadRounds}
@@ -28,20 +27,20 @@ use Rattle.lane_laws.proofs.Sweep.{round_no, last_round}
 use Rattle.lane_laws.proofs.Exactly.{detach_refused}
 
 -- an answer with another number is not 25
-pub had_rounds : (a : Answer) → ((told_of a).answer ≡ 25 → ⊥) → HadRounds a
+pub had_rounds : (a : Result ℕ Failure) → ((told_of a).answer ≡ 25 → ⊥) → HadRounds a
 had_rounds a f n e = other_number e f
 
 -- 0 is not
-pub accepted_had_rounds : (a : Answer) → is_accepted a ≡ true → HadRounds a
+pub accepted_had_rounds : (a : Result ℕ Failure) → is_accepted a ≡ true → HadRounds a
 accepted_had_rounds a h n e = clash false (rw e at h) refl
 
 -- nor is what a check refuses with
-refused_had_rounds : (a : Answer) → is_refusal a ≡ true → HadRounds a
+refused_had_rounds : (a : Result ℕ Failure) → is_refusal a ≡ true → HadRounds a
 refused_had_rounds a h n e = clash false (rw e at h) refl
 
 -- an end for want of rounds, beside one that had enough, which told more than these
 abbrev pub Short : ℕ → ℕ → Ended → Ended → Type 0
-Short n few a b = a.answer ≡ Answer.Budget n → HadRounds b.answer → few < (told_of b.answer).value
+Short n few a b = a.answer ≡ Err (Failure.Budget n) → HadRounds b.answer → few < (told_of b.answer).value
 
 -- an end that is that of more rounds too
 abbrev pub Alike : Ended → Ended → Type 0
@@ -53,7 +52,7 @@ module _ (strip : List ℕ) (height : ℕ) where
       (left made window read : ℕ) → length strip ≤ read → HadRounds (rounds strip height (suc left) made 0 window read).answer
   unfolding rounds
   last_rounds left made window read past =
-      rw (last_round strip height window read past) (had_rounds (Answer.Accepted (made + 1)) (omega arith))
+      rw (last_round strip height window read past) (had_rounds (Ok (made + 1)) (omega arith))
 
   -- after a round that said no: its compares lay past the strip's end, and no lane is left; or the strip had two bytes for it
   after_no :
@@ -81,13 +80,13 @@ module _ (strip : List ℕ) (height : ℕ) where
       let r = round strip height attached window read in
       let below = below_inside height attached r.attached (round_leaves strip height attached window read).inside h in
       by_said_lem (λ (e : Ended). HadRounds e.answer) r.said
-      (λ s. had_rounds (Answer.Accepted (made + 1)) (omega arith))
+      (λ s. had_rounds (Ok (made + 1)) (omega arith))
       (λ s.
       let on = round_no_reads strip height attached window read s in
       after_no left (made + 1) r.attached r.window read r.read on
       (λ past. round_no strip height attached window read past h s)
       (λ inside. rounds_enough (suc left) (made + 1) r.attached r.window r.read below (omega arith)))
-      (λ s. had_rounds (Answer.Offset (made + 1)) (omega arith))
+      (λ s. had_rounds (Err (Failure.Offset (made + 1))) (omega arith))
 
   -- rounds that were enough end alike with more lent
   rounds_more :
@@ -147,9 +146,9 @@ module _ (strip : List ℕ) (height : ℕ) where
       let p = cached_pass strip height window attached 0 in
       let below = below_inside height attached p.attached (cached_leaves strip window height attached 0).clears.inside h in
       by_said_lem (λ (e : Ended). HadRounds e.answer) p.said
-      (λ s. had_rounds (Answer.Accepted 0) (omega arith))
+      (λ s. had_rounds (Ok 0) (omega arith))
       (λ s. rounds_enough lent 0 p.attached window p.read below (omega arith))
-      (λ s. had_rounds (Answer.Offset 0) (omega arith))
+      (λ s. had_rounds (Err (Failure.Offset 0)) (omega arith))
 
   -- and alike with more
   pub detaching_more :
@@ -177,16 +176,16 @@ module _ (strip : List ℕ) (height : ℕ) where
 module _ (v : View) (strip : List ℕ) where
   -- a detach that was refused did not end for want of rounds
   pub refused_otherwise :
-      (lent : ℕ) (a : Answer) → entry_checks v strip ≡ Verdict.Refused a → HadRounds (detach_of v strip lent).answer
+      (lent : ℕ) (a : Failure) → entry_checks v strip ≡ Err a → HadRounds (detach_of v strip lent).answer
   refused_otherwise lent a h n e =
-      let r = detach_refused v strip lent a h in refused_had_rounds a r.number n (rw r.same at e)
+      let r = detach_refused v strip lent a h in refused_had_rounds (Err a) r.number n (rw r.same at e)
 
   -- with two rounds more than half its strip's bytes, no detach ends for want of rounds
   pub rounds_suffice : (lent : ℕ) → length strip / 2 + 2 ≤ lent → HadRounds (detach_of v strip lent).answer
   unfolding detach_of
   rounds_suffice lent k = go (entry_checks v strip) refl
     where
-      go : (c : Verdict) → entry_checks v strip ≡ c → HadRounds (detach_of v strip lent).answer
-      go Verdict.Passes h =
+      go : (c : Result Unit Failure) → entry_checks v strip ≡ c → HadRounds (detach_of v strip lent).answer
+      go (Ok _) h =
           rw h (detaching_enough strip v.height lent v.attached v.window ((detach_passes v strip).0 h).0.below k)
-      go (Verdict.Refused a) h = refused_otherwise lent a h
+      go (Err a) h = refused_otherwise lent a h

@@ -6,24 +6,20 @@ use mathlib.Core.List.{List}
 use mathlib.Core.Bool.{Bool, true, false, cond}
 use mathlib.Core.Logic.{◌↔◌}
 use lib.Dec.{eqb}
+use Rattle.std.proofs.Common.{Result, Ok, Err, is_err}
 use borrow.Author.Tests.{eqb-true, eqb-false}
 use Rattle.strips.specs.Strips.{byte_at}
 use Rattle.strips.proofs.Walk.{stretch_one, stretch_join}
 use Rattle.booleans.proofs.Tests.{by_cases, clash}
 use Rattle.masks.specs.Masks.{lane_in}
 use Rattle.lane_rules.specs.declared.View.{View}
-use Rattle.lane_rules.specs.declared.Said.{Said}
-use Rattle.lane_rules.specs.declared.Refreshed.{Refreshed}
-use Rattle.lane_rules.specs.declared.Pass.{Pass}
-use Rattle.lane_rules.specs.declared.Round.{Round}
-use Rattle.lane_rules.specs.declared.Ended.{Ended}
-use Rattle.lane_rules.specs.declared.Answer.{Answer}
-use Rattle.lane_rules.specs.declared.Verdict.{Verdict}
 use Rattle.lane_rules.specs.declared.Done.{Done}
+use Rattle.lane_rules.specs.declared.ErrorByte.{ErrorByte}
+use Rattle.lane_rules.specs.declared.Failure.{Failure}
 use Rattle.lane_rules.specs.Answers.{told_of, is_accepted}
-use Rattle.lane_rules.specs.Steps.{compared, refreshed}
-use Rattle.lane_rules.specs.Passes.{by_said, failed, cached_pass, try_lane, refreshed_from, refreshed_pass}
-use Rattle.lane_rules.specs.Rounds.{round, rounds, detaching}
+use Rattle.lane_rules.specs.Steps.{compared, refreshed, error_met, Refreshed}
+use Rattle.lane_rules.specs.Passes.{by_said, failed, cached_pass, try_lane, refreshed_from, refreshed_pass, Pass}
+use Rattle.lane_rules.specs.Rounds.{round, rounds, detaching, Round, Ended}
 use Rattle.lane_rules.specs.Calls.{entry_checks, refreshed_checks, unless_refused, passed, cached_of, refreshed_of, detach_of}
 use Rattle.lane_laws.specs.Clauses.{AllBelow, Says, is_refusal, Entry}
 use Rattle.lane_laws.specs.Ends.{cached_work, refreshed_work, detach_work, Clean, Fault, Heard, RefusedWith}
@@ -61,23 +57,26 @@ module _ (strip : List ℕ) where
 
   -- the second of them ends with what is said
   heard_then :
-      (from via to : ℕ) (s : Said) → from ≤ via → Clean strip from via → Heard strip via to s → Heard strip from to s
-  heard_then from via to Said.Yes h p q = clean_then from via to p q
-  heard_then from via to Said.No h p q = clean_then from via to p q
-  heard_then from via to Said.Error h p q = fault_then from via to h p q
+      (from via to : ℕ) (s : Result Bool ErrorByte) → from ≤ via → Clean strip from via → Heard strip via to s →
+      Heard strip from to s
+  heard_then from via to (Ok true) h p q = clean_then from via to p q
+  heard_then from via to (Ok false) h p q = clean_then from via to p q
+  heard_then from via to (Err _) h p q = fault_then from via to h p q
 
   -- a pass that met no error has read none
-  heard_clean : (from to : ℕ) (s : Said) → by_said s false false true ≡ false → Heard strip from to s ↔ Clean strip from to
-  heard_clean from to Said.Yes ok = (λ h. h, λ h. h)
-  heard_clean from to Said.No ok = (λ h. h, λ h. h)
-  heard_clean from to Said.Error ok = absurd (clash true refl ok)
+  heard_clean :
+      (from to : ℕ) (s : Result Bool ErrorByte) → by_said s false false true ≡ false →
+      Heard strip from to s ↔ Clean strip from to
+  heard_clean from to (Ok true) ok = (λ h. h, λ h. h)
+  heard_clean from to (Ok false) ok = (λ h. h, λ h. h)
+  heard_clean from to (Err _) ok = absurd (clash true refl ok)
 
   -- a compare says error exactly where its byte is one
   compare_heard : (lane attached read : ℕ) → Heard strip read (read + 1) (compared (byte_at strip read) lane attached).said
   compare_heard lane attached read =
       go (compared (byte_at strip read) lane attached).said (compare_leaves (byte_at strip read) lane attached).says
     where
-      go : (s : Said) → Says (byte_at strip read) lane attached s → Heard strip read (read + 1) s
+      go : (s : Result Bool ErrorByte) → Says (byte_at strip read) lane attached s → Heard strip read (read + 1) s
       go s (Says.clears z i) = clean_one read (omega arith)
       go s (Says.absent z i) = clean_one read (omega arith)
       go s (Says.keeps o) = clean_one read (omega arith)
@@ -87,10 +86,10 @@ module _ (strip : List ℕ) where
   refresh_heard :
       (attached window read : ℕ) →
       let f = refreshed (byte_at strip read) attached window in
-      Heard strip read (read + 1) (cond f.failed Said.Error Said.No)
+      Heard strip read (read + 1) (cond (is_err f.said) error_met (Ok false))
   unfolding refreshed
   refresh_heard attached window read =
-      let P : Refreshed → Type 0 = λ f. Heard strip read (read + 1) (cond f.failed Said.Error Said.No) in
+      let P : Refreshed → Type 0 = λ f. Heard strip read (read + 1) (cond (is_err f.said) error_met (Ok false)) in
       let byte = byte_at strip read in
       by_cases P (eqb byte 0)
       (λ e. let z = eqb-true byte 0 e in clean_one read (omega arith))
@@ -160,13 +159,13 @@ module _ (strip : List ℕ) where
       let p = refreshed_pass strip height f.window f.attached (read + 1) in
       let once = refresh_heard attached window read in
       let more = refreshed_heard height f.window (begun f.attached (read + 1)) refl in
-      by_cases (λ (r : Round). Heard strip read r.read r.said) f.failed
+      by_cases (λ (r : Round). Heard strip read r.read r.said) (is_err f.said)
       (λ e. rw e at once)
       (λ e. heard_then read (read + 1) p.read p.said (omega arith) (rw e at once) more)
 
   -- rounds behind a stretch with no error end as they do by themselves
   ends_then :
-      (lent from via attached read : ℕ) (a : Answer) → from ≤ via → Clean strip from via →
+      (lent from via attached read : ℕ) (a : Result ℕ Failure) → from ≤ via → Clean strip from via →
       Ends strip lent via attached read a → Ends strip lent from attached read a
   ends_then lent from via attached read a h p (yes n k e c) = yes n k e (clean_then from via read p c)
   ends_then lent from via attached read a h p (error n k f) = error n k (fault_then from via read h p f)
@@ -219,8 +218,8 @@ module _ (strip : List ℕ) where
 
 -- a check refuses with an answer of 20 to 23, whose value is 0
 refusal_tells :
-    (v : View) (Asked : Type 0) (strip : List ℕ) (a : Answer) → Entry v Asked strip (Verdict.Refused a) →
-    (is_refusal a ≡ true) × ((told_of a).value ≡ 0)
+    (v : View) (Asked : Type 0) (strip : List ℕ) (a : Failure) → Entry v Asked strip (Err a) →
+    (is_refusal (Err a) ≡ true) × ((told_of (Err a)).value ≡ 0)
 refusal_tells v Asked strip a (Entry.height h) = (refl, refl)
 refusal_tells v Asked strip a (Entry.view h k) = (refl, refl)
 refusal_tells v Asked strip a (Entry.window r n) = (refl, refl)
@@ -228,41 +227,41 @@ refusal_tells v Asked strip a (Entry.bytes r k s) = (refl, refl)
 
 -- and the call changes nothing
 refused_with :
-    (v : View) (Asked : Type 0) (strip : List ℕ) (a : Answer) (c : Verdict) (work : Done) → c ≡ Verdict.Refused a →
-    Entry v Asked strip (Verdict.Refused a) → RefusedWith a v (unless_refused c v work)
+    (v : View) (Asked : Type 0) (strip : List ℕ) (a : Failure) (c : Result Unit Failure) (work : Done) → c ≡ Err a →
+    Entry v Asked strip (Err a) → RefusedWith a v (unless_refused c v work)
 refused_with v Asked strip a c work h k =
     let tells = refusal_tells v Asked strip a k in record { number = tells.0; value = tells.1; same = rw h }
 
 -- how a pass ends
 pass_ends :
-    (strip : List ℕ) (v : View) (p : Pass) → (p.said ≡ Said.Yes → p.attached ≡ 0) → Heard strip 0 p.read p.said →
+    (strip : List ℕ) (v : View) (p : Pass) → (p.said ≡ Ok true → p.attached ≡ 0) → Heard strip 0 p.read p.said →
     PassEnds strip p.attached p.read (passed v p).answer
 pass_ends strip v p f heard =
-    by_said_lem (λ (a : Answer). PassEnds strip p.attached p.read a) p.said
+    by_said_lem (λ (a : Result ℕ Failure). PassEnds strip p.attached p.read a) p.said
     (λ s. said_yes (f s) (rw s at heard))
     (λ s. said_no (rw s at heard))
     (λ s. said_error (rw s at heard))
 
 module _ (v : View) (strip : List ℕ) where
   -- a refused cached pass tells its number and the value 0, and leaves all as before
-  pub cached_refused : (a : Answer) → entry_checks v strip ≡ Verdict.Refused a → RefusedWith a v (cached_of v strip)
+  pub cached_refused : (a : Failure) → entry_checks v strip ≡ Err a → RefusedWith a v (cached_of v strip)
   unfolding cached_of
-  cached_refused a h = refused_with v _ strip a _ _ h ((detach_entry v strip (Verdict.Refused a)).0 h)
+  cached_refused a h = refused_with v _ strip a _ _ h ((detach_entry v strip (Err a)).0 h)
 
   -- and so does a refused refreshed pass
-  pub refreshed_refused : (a : Answer) → refreshed_checks v strip ≡ Verdict.Refused a → RefusedWith a v (refreshed_of v strip)
+  pub refreshed_refused : (a : Failure) → refreshed_checks v strip ≡ Err a → RefusedWith a v (refreshed_of v strip)
   unfolding refreshed_of
-  refreshed_refused a h = refused_with v _ strip a _ _ h ((refreshed_entry v strip (Verdict.Refused a)).0 h)
+  refreshed_refused a h = refused_with v _ strip a _ _ h ((refreshed_entry v strip (Err a)).0 h)
 
   -- and a refused detach
   pub detach_refused :
-      (lent : ℕ) (a : Answer) → entry_checks v strip ≡ Verdict.Refused a → RefusedWith a v (detach_of v strip lent)
+      (lent : ℕ) (a : Failure) → entry_checks v strip ≡ Err a → RefusedWith a v (detach_of v strip lent)
   unfolding detach_of
-  detach_refused lent a h = refused_with v _ strip a _ _ h ((detach_entry v strip (Verdict.Refused a)).0 h)
+  detach_refused lent a h = refused_with v _ strip a _ _ h ((detach_entry v strip (Err a)).0 h)
 
   -- a cached pass tells 1, with no lane attached, or 0, or is 24 at an error byte
   pub cached_ends :
-      entry_checks v strip ≡ Verdict.Passes →
+      entry_checks v strip ≡ Ok tt →
       PassEnds strip (cached_of v strip).view.attached (cached_work v strip).read (cached_of v strip).answer
   unfolding cached_of
   cached_ends h =
@@ -275,7 +274,7 @@ module _ (v : View) (strip : List ℕ) where
 
   -- and so does a refreshed pass
   pub refreshed_ends :
-      refreshed_checks v strip ≡ Verdict.Passes →
+      refreshed_checks v strip ≡ Ok tt →
       PassEnds strip (refreshed_of v strip).view.attached (refreshed_work v strip).read (refreshed_of v strip).answer
   unfolding refreshed_of
   refreshed_ends h =
@@ -290,44 +289,47 @@ module _ (v : View) (strip : List ℕ) where
 
 module _ {strip : List ℕ} {lent from attached read : ℕ} where
   -- a yes leaves no lane attached
-  pub accepted_detached : {a : Answer} → Ends strip lent from attached read a → is_accepted a ≡ true → attached ≡ 0
+  pub accepted_detached :
+      {a : Result ℕ Failure} → Ends strip lent from attached read a → is_accepted a ≡ true → attached ≡ 0
   accepted_detached (yes n k e c) t = e
   accepted_detached (error n k f) t = absurd (clash false t refl)
   accepted_detached (spent c) t = absurd (clash false t refl)
 
   -- no end is the answer of a check
-  pub ends_unrefused : {a : Answer} → Ends strip lent from attached read a → is_refusal a ≡ false
+  pub ends_unrefused : {a : Result ℕ Failure} → Ends strip lent from attached read a → is_refusal a ≡ false
   ends_unrefused (yes n k e c) = refl
   ends_unrefused (error n k f) = refl
   ends_unrefused (spent c) = refl
 
   -- 24 comes of an error
-  fault_of : {a : Answer} → Ends strip lent from attached read a → (n : ℕ) → a ≡ Answer.Offset n → Fault strip from read
+  fault_of :
+      {a : Result ℕ Failure} → Ends strip lent from attached read a → (n : ℕ) → a ≡ Err (Failure.Offset n) →
+      Fault strip from read
   fault_of (yes m k e c) n o = absurd (other_number o (omega arith))
   fault_of (error m k f) n o = f
   fault_of (spent c) n o = absurd (other_number o (omega arith))
 
   -- what is not 24 comes of none
-  clean_of : {a : Answer} → Ends strip lent from attached read a → MetNoError a → Clean strip from read
+  clean_of : {a : Result ℕ Failure} → Ends strip lent from attached read a → MetNoError a → Clean strip from read
   clean_of (yes m k e c) f = c
   clean_of (error m k g) f = absurd (f m refl)
   clean_of (spent c) f = c
 
   -- an error gives 24
   offset_of :
-      {a : Answer} → Ends strip lent from attached read a → (i : ℕ) → from ≤ i → i < read → 1 < byte_at strip i →
-      (n : ℕ) × (a ≡ Answer.Offset n)
+      {a : Result ℕ Failure} → Ends strip lent from attached read a → (i : ℕ) → from ≤ i → i < read → 1 < byte_at strip i →
+      (n : ℕ) × (a ≡ Err (Failure.Offset n))
   offset_of (yes m k e c) i f l h = let low = c i f l in absurd (omega arith)
   offset_of (error m k g) i f l h = (m, refl)
   offset_of (spent c) i f l h = let low = c i f l in absurd (omega arith)
 
   -- 25 comes of all the rounds lent
-  lent_of : {a : Answer} → Ends strip lent from attached read a → (n : ℕ) → a ≡ Answer.Budget n → n ≡ lent
+  lent_of : {a : Result ℕ Failure} → Ends strip lent from attached read a → (n : ℕ) → a ≡ Err (Failure.Budget n) → n ≡ lent
   lent_of (yes m k e c) n o = absurd (other_number o (omega arith))
   lent_of (error m k g) n o = absurd (other_number o (omega arith))
-  lent_of (spent c) n o = sym (ap (λ (a : Answer). (told_of a).value) o)
+  lent_of (spent c) n o = sym (ap (λ (a : Result ℕ Failure). (told_of a).value) o)
 
-module _ (v : View) (strip : List ℕ) (lent : ℕ) (passes : entry_checks v strip ≡ Verdict.Passes) where
+module _ (v : View) (strip : List ℕ) (lent : ℕ) (passes : entry_checks v strip ≡ Ok tt) where
   -- a detach is accepted, with no lane attached, or is 24 at an error byte, or 25 with the rounds lent, and no other answer
   pub detach_ends :
       Ends strip lent 0 (detach_of v strip lent).view.attached (detach_work v strip lent).read (detach_of v strip lent).answer
@@ -360,7 +362,8 @@ module _ (v : View) (strip : List ℕ) (lent : ℕ) (passes : entry_checks v str
       go false e r = let none = else_not_retired e in absurd (omega arith)
 
   -- 24: the last byte read is an error, and no other
-  pub offset_fault : (n : ℕ) → (detach_of v strip lent).answer ≡ Answer.Offset n → Fault strip 0 (detach_work v strip lent).read
+  pub offset_fault :
+      (n : ℕ) → (detach_of v strip lent).answer ≡ Err (Failure.Offset n) → Fault strip 0 (detach_work v strip lent).read
   offset_fault n e = fault_of detach_ends n e
 
   -- any other answer: no byte read is an error
@@ -370,7 +373,7 @@ module _ (v : View) (strip : List ℕ) (lent : ℕ) (passes : entry_checks v str
 
   -- 24 exactly where an error byte was read
   pub offset_exactly :
-      ((n : ℕ) × ((detach_of v strip lent).answer ≡ Answer.Offset n))
+      ((n : ℕ) × ((detach_of v strip lent).answer ≡ Err (Failure.Offset n)))
       ↔ ((i : ℕ) × (i < (detach_work v strip lent).read) × (1 < byte_at strip i))
   offset_exactly =
       (λ o. last_read (offset_fault o.0 o.1), λ i. offset_of detach_ends i.0 (omega arith) i.1 i.2)
@@ -380,5 +383,5 @@ module _ (v : View) (strip : List ℕ) (lent : ℕ) (passes : entry_checks v str
       last_read f = let some = f.some in ((detach_work v strip lent).read - 1, omega arith, f.last)
 
   -- 25 tells the rounds lent
-  pub budget_lent : (n : ℕ) → (detach_of v strip lent).answer ≡ Answer.Budget n → n ≡ lent
+  pub budget_lent : (n : ℕ) → (detach_of v strip lent).answer ≡ Err (Failure.Budget n) → n ≡ lent
   budget_lent n e = lent_of detach_ends n e

@@ -3,27 +3,23 @@ use Prim.Native.Nat.{ℕ, zero, suc, ◌+◌, ◌<◌}
 use native.Mathlib.Omega.{arith}
 use mathlib.Core.Path.{◌≡◌, refl, sym, ap, ◌∙◌}
 use mathlib.Core.List.{List}
-use mathlib.Core.Bool.{true, false}
+use mathlib.Core.Bool.{true, false, Bool}
 use mathlib.Core.Logic.{⊎_elim}
 use lib.Dec.{eqb}
+use Rattle.std.proofs.Common.{Result, Ok, is_err}
 use borrow.Author.Tests.{eqb-true, eqb-false}
 use Rattle.strips.specs.Strips.{byte_at}
 use Rattle.booleans.proofs.Tests.{by_cases, either, clash}
 use Rattle.masks.specs.Masks.{lane_in, lowest_cleared, Inside}
 use Rattle.masks.proofs.Lanes.{cleared_same, cleared_other, no_lanes, below_bound, lanes_below_lem}
 use Rattle.masks.proofs.Lanes.{inside_same, inside_then, inside_cleared, inside_lowest}
-use Rattle.lane_rules.specs.declared.Said.{Said}
-use Rattle.lane_rules.specs.declared.Compared.{Compared}
-use Rattle.lane_rules.specs.declared.Refreshed.{Refreshed}
-use Rattle.lane_rules.specs.declared.Pass.{Pass}
-use Rattle.lane_rules.specs.declared.Round.{Round}
-use Rattle.lane_rules.specs.declared.Ended.{Ended}
-use Rattle.lane_rules.specs.Steps.{compared, refreshed}
-use Rattle.lane_rules.specs.Passes.{failed, cached_pass, try_lane, refreshed_from}
-use Rattle.lane_rules.specs.Rounds.{round, rounds, detaching}
+use Rattle.lane_rules.specs.Steps.{compared, refreshed, error_met, Compared, Refreshed}
+use Rattle.lane_rules.specs.Passes.{failed, cached_pass, try_lane, refreshed_from, Pass}
+use Rattle.lane_rules.specs.Rounds.{round, rounds, detaching, Round, Ended}
 use Rattle.lane_laws.specs.Clauses.{AllBelow, NoneBelow, Outside, Says}
 use Rattle.lane_laws.proofs.Cases.{by_said_lem, no_not_yes, error_not_yes}
 use Rattle.lane_laws.proofs.Reading.{begun}
+use Rattle.lane_rules.specs.declared.ErrorByte.{ErrorByte}
 
 -- a lane that a mask lacks is in no mask inside it
 pub lane_inside : (a b lane : ℕ) → Inside b a → lane_in a lane ≡ false → lane_in b lane ≡ false
@@ -57,13 +53,13 @@ pub record CompareLeaves (byte lane attached : ℕ) (c : Compared) : Type 0 wher
   pub says : Says byte lane attached c.said
   pub inside : Inside c.attached attached
   pub others : (other : ℕ) → (other ≡ lane → ⊥) → lane_in c.attached other ≡ lane_in attached other
-  pub yes : c.said ≡ Said.Yes → lane_in c.attached lane ≡ false
-  pub same : (c.said ≡ Said.Yes → ⊥) → c.attached ≡ attached
+  pub yes : c.said ≡ Ok true → lane_in c.attached lane ≡ false
+  pub same : (c.said ≡ Ok true → ⊥) → c.attached ≡ attached
 
 module _ (byte lane attached : ℕ) where
   -- without a yes
   compare_same :
-      (said : Said) → (said ≡ Said.Yes → ⊥) → Says byte lane attached said →
+      (said : Result Bool ErrorByte) → (said ≡ Ok true → ⊥) → Says byte lane attached said →
       CompareLeaves byte lane attached (record { said = said; attached = attached })
   compare_same said n k =
       record { says = k; inside = inside_same attached; others = λ other h. refl; yes = λ y. absurd (n y); same = λ h. refl }
@@ -81,24 +77,24 @@ module _ (byte lane attached : ℕ) where
         yes = λ y. cleared_same attached lane;
         same = λ h. absurd (h refl);
       })
-      (λ t. compare_same Said.No no_not_yes (Says.absent (eqb-true byte 0 e) t)))
+      (λ t. compare_same (Ok false) no_not_yes (Says.absent (eqb-true byte 0 e) t)))
       (λ e. by_cases (CompareLeaves byte lane attached) (eqb byte 1)
-      (λ t. compare_same Said.No no_not_yes (Says.keeps (eqb-true byte 1 t)))
+      (λ t. compare_same (Ok false) no_not_yes (Says.keeps (eqb-true byte 1 t)))
       (λ t.
       let a = eqb-false byte 0 e in
       let b = eqb-false byte 1 t in
-      compare_same Said.Error error_not_yes (Says.fails (omega arith))))
+      compare_same error_met error_not_yes (Says.fails (omega arith))))
 
 -- a refresh: the window is then what is attached; one that fails changes nothing
 pub record RefreshLeaves (attached window : ℕ) (f : Refreshed) : Type 0 where
   pub inside : Inside f.attached attached
-  pub sets : f.failed ≡ false → f.window ≡ f.attached
-  pub fails : f.failed ≡ true → (f.attached ≡ attached) × (f.window ≡ window)
+  pub sets : is_err f.said ≡ false → f.window ≡ f.attached
+  pub fails : is_err f.said ≡ true → (f.attached ≡ attached) × (f.window ≡ window)
 
 -- one that does not fail
 refresh_sets :
     (attached window a : ℕ) → Inside a attached →
-    RefreshLeaves attached window (record { failed = false; attached = a; window = a })
+    RefreshLeaves attached window (record { said = Ok tt; attached = a; window = a })
 refresh_sets attached window a i = record { inside = i; sets = λ h. refl; fails = λ h. absurd (clash false h refl) }
 
 -- whatever its byte
@@ -141,17 +137,17 @@ clears_lane window byte lane attached c e k =
 -- a cached pass that says yes leaves no lane below the height attached
 pub record CachedLeaves (height window attached : ℕ) (p : Pass) : Type 0 where
   pub clears : Clears window attached p.attached
-  pub yes : p.said ≡ Said.Yes → NoneBelow p.attached height
+  pub yes : p.said ≡ Ok true → NoneBelow p.attached height
 
 -- one lane of a refreshed pass: after a yes it was skipped, as it is outside the window
 pub record TryLeaves (lane window : ℕ) (p q : Pass) : Type 0 where
   pub clears : Clears window p.attached q.attached
-  pub yes : q.said ≡ Said.Yes → (q ≡ p) × (lane_in window lane ≡ false)
+  pub yes : q.said ≡ Ok true → (q ≡ p) × (lane_in window lane ≡ false)
 
 -- a refreshed pass, from where it stands on: after a yes none was tried, as no lane below the height is in the window
 pub record RefreshedLeaves (height window : ℕ) (p q : Pass) : Type 0 where
   pub clears : Clears window p.attached q.attached
-  pub yes : q.said ≡ Said.Yes → (q ≡ p) × NoneBelow window height
+  pub yes : q.said ≡ Ok true → (q ≡ p) × NoneBelow window height
 
 module _ (strip : List ℕ) (window : ℕ) where
   -- from any lane down
@@ -186,7 +182,8 @@ module _ (strip : List ℕ) (window : ℕ) where
         clears = clears_lane window _ lane p.attached c e leaves;
         yes = λ y.
             absurd
-            (by_said_lem (λ (s : Said). s ≡ Said.Yes → ⊥) c.said (λ s. no_not_yes) (λ s. no_not_yes) (λ s. error_not_yes) y);
+            (by_said_lem (λ (s : Result Bool ErrorByte). s ≡ Ok true → ⊥) c.said
+            (λ s. no_not_yes) (λ s. no_not_yes) (λ s. error_not_yes) y);
       })
       (λ e. record { clears = clears_same window p.attached; yes = λ y. (refl, e) })
 
@@ -211,7 +208,7 @@ module _ (strip : List ℕ) (window : ℕ) where
 
 -- so no lane below the height is attached, where every attached lane was in the window
 pub refreshed_yes :
-    (height window : ℕ) (p q : Pass) → RefreshedLeaves height window p q → Inside p.attached window → q.said ≡ Said.Yes →
+    (height window : ℕ) (p q : Pass) → RefreshedLeaves height window p q → Inside p.attached window → q.said ≡ Ok true →
     NoneBelow q.attached height
 refreshed_yes height window p q k i y =
     none_inside height window q.attached (inside_then q.attached p.attached window k.clears.inside i) (k.yes y).1
@@ -219,7 +216,7 @@ refreshed_yes height window p q k i y =
 -- a round that says yes leaves no lane attached
 pub record RoundLeaves (height attached : ℕ) (r : Round) : Type 0 where
   pub inside : Inside r.attached attached
-  pub yes : AllBelow attached height → r.said ≡ Said.Yes → r.attached ≡ 0
+  pub yes : AllBelow attached height → r.said ≡ Ok true → r.attached ≡ 0
 
 module _ (strip : List ℕ) (height : ℕ) where
   -- a refresh and a refreshed pass
@@ -230,7 +227,7 @@ module _ (strip : List ℕ) (height : ℕ) where
       let p = begun f.attached (read + 1) in
       let once = refresh_leaves (byte_at strip read) attached window in
       let more = refreshed_leaves strip f.window height p in
-      by_cases (RoundLeaves height attached) f.failed
+      by_cases (RoundLeaves height attached) (is_err f.said)
       (λ e. record { inside = once.inside; yes = λ h y. absurd (error_not_yes y) })
       (λ e.
       let i = inside_then _ f.attached attached more.clears.inside once.inside in

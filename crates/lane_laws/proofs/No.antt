@@ -7,19 +7,17 @@ use mathlib.Core.List.{List}
 use mathlib.Core.Bool.{Bool, true, false, cond}
 use mathlib.Core.Logic.{◌↔◌, ◌⊎◌, inl, inr, ⊎_elim}
 use lib.Dec.{eqb}
+use Rattle.std.proofs.Common.{Result, Ok, Err}
 use borrow.Author.Tests.{eqb-true, eqb-false, ne_eqb}
 use Rattle.strips.specs.Strips.{byte_at}
 use Rattle.booleans.proofs.Tests.{by_cases, either, clash}
 use Rattle.masks.specs.Masks.{lane_in, cleared, Inside}
 use Rattle.masks.proofs.Lanes.{cleared_other}
 use Rattle.lane_rules.specs.declared.View.{View}
-use Rattle.lane_rules.specs.declared.Said.{Said}
-use Rattle.lane_rules.specs.declared.Compared.{Compared}
-use Rattle.lane_rules.specs.declared.Pass.{Pass}
-use Rattle.lane_rules.specs.declared.Answer.{Answer}
-use Rattle.lane_rules.specs.declared.Verdict.{Verdict}
-use Rattle.lane_rules.specs.Steps.{compared}
-use Rattle.lane_rules.specs.Passes.{by_said, failed, cached_pass, try_lane, refreshed_from}
+use Rattle.lane_rules.specs.declared.ErrorByte.{ErrorByte}
+use Rattle.lane_rules.specs.declared.Failure.{Failure}
+use Rattle.lane_rules.specs.Steps.{compared, error_met, Compared}
+use Rattle.lane_rules.specs.Passes.{by_said, failed, cached_pass, try_lane, refreshed_from, Pass}
 use Rattle.lane_rules.specs.Calls.{entry_checks, refreshed_checks, cached_of, refreshed_of}
 use Rattle.lane_laws.specs.Clauses.{NoneBelow, Says}
 use Rattle.lane_laws.specs.Ends.{cached_work, refreshed_work, Clean, Heard}
@@ -32,7 +30,7 @@ use Rattle.lane_laws.proofs.Yes.{said_yes}
 
 -- a no of a compare came at byte 1, or at byte 0 on a lane that is not attached
 said_no :
-    (byte lane attached : ℕ) {s : Said} → Says byte lane attached s → s ≡ Said.No →
+    (byte lane attached : ℕ) {s : Result Bool ErrorByte} → Says byte lane attached s → s ≡ Ok false →
     (byte ≡ 1) ⊎ ((byte ≡ 0) × (lane_in attached lane ≡ false))
 said_no byte lane attached (Says.clears b i) e = absurd (yes_not_no e)
 said_no byte lane attached (Says.absent b i) e = inr (b, i)
@@ -40,7 +38,7 @@ said_no byte lane attached (Says.keeps b) e = inl b
 said_no byte lane attached (Says.fails b) e = absurd (error_not_no e)
 
 -- an error of a compare came at a byte above 1
-said_error : (byte lane attached : ℕ) {s : Said} → Says byte lane attached s → s ≡ Said.Error → 1 < byte
+said_error : (byte lane attached : ℕ) {s : Result Bool ErrorByte} → Says byte lane attached s → s ≡ error_met → 1 < byte
 said_error byte lane attached (Says.clears b i) e = absurd (error_not_yes (sym e))
 said_error byte lane attached (Says.absent b i) e = absurd (error_not_no (sym e))
 said_error byte lane attached (Says.keeps b) e = absurd (error_not_no (sym e))
@@ -78,23 +76,23 @@ module _ (strip : List ℕ) (window : ℕ) where
       }
 
   -- what a cached pass that ends with a word has met
-  abbrev Met : ℕ → ℕ → ℕ → Said → Type 0
-  Met attached read height Said.Yes = Unit {0}
-  Met attached read height Said.No = SomeNo strip window attached read height
-  Met attached read height Said.Error = SomeError strip window attached read height
+  abbrev Met : ℕ → ℕ → ℕ → Result Bool ErrorByte → Type 0
+  Met attached read height (Ok true) = Unit {0}
+  Met attached read height (Ok false) = SomeNo strip window attached read height
+  Met attached read height (Err _) = SomeError strip window attached read height
 
   module _ (top attached left read : ℕ)
       (w : lane_in window top ≡ true) (b : (byte_at strip read ≡ 0) × (lane_in attached top ≡ true))
       (i : Inside left attached) (others : (other : ℕ) → (other ≡ top → ⊥) → lane_in left other ≡ lane_in attached other) where
     -- one lane more, where the top lane is cleared
-    met_next : (s : Said) → Met left (read + 1) top s → Met attached read (suc top) s
-    met_next Said.Yes m = tt
-    met_next Said.No m =
+    met_next : (s : Result Bool ErrorByte) → Met left (read + 1) top s → Met attached read (suc top) s
+    met_next (Ok true) m = tt
+    met_next (Ok false) m =
         let low = m.1.under in
         let place : byte_for (read + 1) top m.0 ≡ byte_for read (suc top) m.0 = omega arith in
         let here = others m.0 (λ e. omega arith) in
         (m.0, comes_next top attached left read m.0 w b i m.1, rw (place, here) at m.2)
-    met_next Said.Error m =
+    met_next (Err _) m =
         let low = m.1.under in
         let place : byte_for (read + 1) top m.0 ≡ byte_for read (suc top) m.0 = omega arith in
         (m.0, comes_next top attached left read m.0 w b i m.1, rw place at m.2)
@@ -169,10 +167,10 @@ module _ (strip : List ℕ) (window : ℕ) where
   -- it says no at a lane outside the window, at byte 1, and at byte 0 on a lane that is not attached
   no_at :
       (lane attached read : ℕ) → NoAt window attached lane (byte_at strip read) →
-      (cached_pass strip (suc lane) window attached read).said ≡ Said.No
+      (cached_pass strip (suc lane) window attached read).said ≡ Ok false
   unfolding cached_pass compared
   no_at lane attached read n =
-      by_cases (λ (p : Pass). p.said ≡ Said.No) (lane_in window lane)
+      by_cases (λ (p : Pass). p.said ≡ Ok false) (lane_in window lane)
       (λ w. ⊎_elim (λ e. absurd (clash (lane_in window lane) w e))
       (λ m. ⊎_elim (λ b. rw b) (λ b. rw (b.0, b.1)) m) n)
       (λ w. refl)
@@ -180,7 +178,7 @@ module _ (strip : List ℕ) (window : ℕ) where
   -- it meets an error at a lane of the window whose byte is above 1
   error_at :
       (lane attached read : ℕ) → ErrorAt window lane (byte_at strip read) →
-      (cached_pass strip (suc lane) window attached read).said ≡ Said.Error
+      (cached_pass strip (suc lane) window attached read).said ≡ error_met
   unfolding cached_pass compared
   error_at lane attached read h =
       let high = h.1 in
@@ -189,7 +187,7 @@ module _ (strip : List ℕ) (window : ℕ) where
   -- so a cached pass that comes to such a lane says no
   cached_no :
       (height attached read : ℕ) → SomeNo strip window attached read height →
-      (cached_pass strip height window attached read).said ≡ Said.No
+      (cached_pass strip height window attached read).said ≡ Ok false
   cached_no height attached read (lane, c, n) =
       let down = comes_down height attached read lane c in
       rw down.2 (no_at lane down.0 (byte_for read height lane) (rw (sym down.1) at n))
@@ -197,7 +195,7 @@ module _ (strip : List ℕ) (window : ℕ) where
   -- and one that comes to a lane of the window with an error byte meets an error
   cached_error :
       (height attached read : ℕ) → SomeError strip window attached read height →
-      (cached_pass strip height window attached read).said ≡ Said.Error
+      (cached_pass strip height window attached read).said ≡ error_met
   cached_error height attached read (lane, c, h) =
       let down = comes_down height attached read lane c in
       rw down.2 (error_at lane down.0 (byte_for read height lane) h)
@@ -250,8 +248,8 @@ module _ (v : View) (strip : List ℕ) where
   -- the cached pass tells 0 exactly where it comes to a lane that is outside the window, or has byte 1, or has byte 0 and is not
   -- attached
   pub cached_no_exactly :
-      entry_checks v strip ≡ Verdict.Passes →
-      ((cached_of v strip).answer ≡ Answer.Accepted 0) ↔ SomeNo strip v.window v.attached 0 v.height
+      entry_checks v strip ≡ Ok tt →
+      ((cached_of v strip).answer ≡ Ok 0) ↔ SomeNo strip v.window v.attached 0 v.height
   unfolding cached_of
   cached_no_exactly h = (
     λ e. rw (no_told (cached_work v strip).said (rw h at e)) at (met strip v.window v.height v.attached 0),
@@ -260,8 +258,8 @@ module _ (v : View) (strip : List ℕ) where
 
   -- it is 24 exactly where it comes to a lane of the window whose byte is an error
   pub cached_offset_exactly :
-      entry_checks v strip ≡ Verdict.Passes →
-      ((cached_of v strip).answer ≡ Answer.Offset 0) ↔ SomeError strip v.window v.attached 0 v.height
+      entry_checks v strip ≡ Ok tt →
+      ((cached_of v strip).answer ≡ Err (Failure.Offset 0)) ↔ SomeError strip v.window v.attached 0 v.height
   unfolding cached_of
   cached_offset_exactly h = (
     λ e. rw (error_told (cached_work v strip).said (rw h at e)) at (met strip v.window v.height v.attached 0),
@@ -273,21 +271,22 @@ module _ (v : View) (strip : List ℕ) where
   tries = lanes_tried v.window v.height
 
   -- what a refreshed pass that ends with a word has met; each shuts out the others
-  abbrev Tried : Said → Type 0
-  Tried Said.Yes = tries ≡ 0
-  Tried Said.No = (0 < tries) × Clean strip 0 tries
-  Tried Said.Error = (i : ℕ) × (i < tries) × (1 < byte_at strip i)
+  abbrev Tried : Result Bool ErrorByte → Type 0
+  Tried (Ok true) = tries ≡ 0
+  Tried (Ok false) = (0 < tries) × Clean strip 0 tries
+  Tried (Err _) = (i : ℕ) × (i < tries) × (1 < byte_at strip i)
 
   -- one of them, by what is read and said
   tried_by :
-      (read : ℕ) (s : Said) → Heard strip 0 read s → read ≤ tries → (by_said s false false true ≡ false → read ≡ tries) →
-      (s ≡ Said.Yes → read ≡ 0) → (s ≡ Said.No → 0 < read) → Tried s
-  tried_by read Said.Yes heard most all none some = let a = all refl in let b = none refl in omega arith
-  tried_by read Said.No heard most all none some =
+      (read : ℕ) (s : Result Bool ErrorByte) → Heard strip 0 read s → read ≤ tries →
+      (by_said s false false true ≡ false → read ≡ tries) →
+      (s ≡ Ok true → read ≡ 0) → (s ≡ Ok false → 0 < read) → Tried s
+  tried_by read (Ok true) heard most all none some = let a = all refl in let b = none refl in omega arith
+  tried_by read (Ok false) heard most all none some =
       let a = all refl in
       let b = some refl in
       (omega arith, rw a at heard)
-  tried_by read Said.Error heard most all none some =
+  tried_by read (Err _) heard most all none some =
       let k = heard.some in (read - 1, omega arith, heard.last)
 
   -- the one by which it ends
@@ -304,42 +303,42 @@ module _ (v : View) (strip : List ℕ) where
       (λ n. let a = no_reads strip v.window v.height p refl n in omega arith)
 
   -- two of them are one
-  tried_one : (s t : Said) → Tried s → Tried t → s ≡ t
-  tried_one Said.Yes Said.Yes x y = refl
-  tried_one Said.Yes Said.No x y = let a = y.0 in absurd (omega arith)
-  tried_one Said.Yes Said.Error x y = let a = y.1 in absurd (omega arith)
-  tried_one Said.No Said.Yes x y = let a = x.0 in absurd (omega arith)
-  tried_one Said.No Said.No x y = refl
-  tried_one Said.No Said.Error x y =
+  tried_one : (s t : Result Bool ErrorByte) → Tried s → Tried t → s ≡ t
+  tried_one (Ok true) (Ok true) x y = refl
+  tried_one (Ok true) (Ok false) x y = let a = y.0 in absurd (omega arith)
+  tried_one (Ok true) (Err _) x y = let a = y.1 in absurd (omega arith)
+  tried_one (Ok false) (Ok true) x y = let a = x.0 in absurd (omega arith)
+  tried_one (Ok false) (Ok false) x y = refl
+  tried_one (Ok false) (Err _) x y =
       let a = x.1 y.0 (omega arith) y.1 in
       let b = y.2 in
       absurd (omega arith)
-  tried_one Said.Error Said.Yes x y = let a = x.1 in absurd (omega arith)
-  tried_one Said.Error Said.No x y =
+  tried_one (Err _) (Ok true) x y = let a = x.1 in absurd (omega arith)
+  tried_one (Err _) (Ok false) x y =
       let a = y.1 x.0 (omega arith) x.1 in
       let b = x.2 in
       absurd (omega arith)
-  tried_one Said.Error Said.Error x y = refl
+  tried_one (Err _) (Err _) x y = refl
 
   -- the refreshed pass tells 0 exactly where some lane below the height is in the window, and of the strip's first bytes, one to
   -- each such lane, none is an error
   pub refreshed_no_exactly :
-      refreshed_checks v strip ≡ Verdict.Passes →
-      ((refreshed_of v strip).answer ≡ Answer.Accepted 0)
+      refreshed_checks v strip ≡ Ok tt →
+      ((refreshed_of v strip).answer ≡ Ok 0)
       ↔ ((0 < lanes_tried v.window v.height) × Clean strip 0 (lanes_tried v.window v.height))
   unfolding refreshed_of
   refreshed_no_exactly h = (
     λ e. rw (no_told (refreshed_work v strip).said (rw h at e)) at tried_met,
-    λ n. rw (h, tried_one (refreshed_work v strip).said Said.No tried_met n),
+    λ n. rw (h, tried_one (refreshed_work v strip).said (Ok false) tried_met n),
   )
 
   -- it is 24 exactly where one of those bytes is an error
   pub refreshed_offset_exactly :
-      refreshed_checks v strip ≡ Verdict.Passes →
-      ((refreshed_of v strip).answer ≡ Answer.Offset 0)
+      refreshed_checks v strip ≡ Ok tt →
+      ((refreshed_of v strip).answer ≡ Err (Failure.Offset 0))
       ↔ ((i : ℕ) × (i < lanes_tried v.window v.height) × (1 < byte_at strip i))
   unfolding refreshed_of
   refreshed_offset_exactly h = (
     λ e. rw (error_told (refreshed_work v strip).said (rw h at e)) at tried_met,
-    λ n. rw (h, tried_one (refreshed_work v strip).said Said.Error tried_met n),
+    λ n. rw (h, tried_one (refreshed_work v strip).said error_met tried_met n),
   )

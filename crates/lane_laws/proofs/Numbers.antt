@@ -5,10 +5,9 @@ use mathlib.Core.List.{List}
 use mathlib.Core.Bool.{true}
 use Rattle.lent_lists.specs.Among.{among}
 use Rattle.lane_rules.specs.declared.View.{View}
-use Rattle.lane_rules.specs.declared.Pass.{Pass}
-use Rattle.lane_rules.specs.declared.Answer.{Answer}
-use Rattle.lane_rules.specs.declared.Verdict.{Verdict}
 use Rattle.lane_rules.specs.declared.Done.{Done}
+use Rattle.lane_rules.specs.declared.Failure.{Failure}
+use Rattle.lane_rules.specs.Passes.{Pass}
 use Rattle.lane_rules.specs.Answers.{told_of}
 use Rattle.lane_rules.specs.Calls.{entry_checks, refreshed_checks, unless_refused, passed, cached_of, refreshed_of, detach_of}
 use Rattle.lane_laws.specs.Clauses.{Valid, Entry, DetachEntry, RefreshedEntry}
@@ -17,6 +16,7 @@ use Rattle.lane_laws.specs.Ends.{cached_numbers, refreshed_numbers, detach_numbe
 use Rattle.lane_laws.proofs.Cases.{by_said_lem}
 use Rattle.lane_laws.proofs.Entry.{detach_entry, refreshed_entry}
 use Rattle.lane_laws.proofs.Exactly.{detaching_ends}
+use Rattle.std.proofs.Common.{Result}
 
 -- the number that a call answers with
 abbrev number : Done → ℕ
@@ -28,7 +28,7 @@ module _ (v : View) (strip : List ℕ) (P : ℕ → Type 0) (work : Done) where
       P 20 → P 21 → P 23 → (Valid v → P (number work)) → P (number (unless_refused (entry_checks v strip) v work))
   detach_number height view bytes f = go (entry_checks v strip) ((detach_entry v strip (entry_checks v strip)).0 refl)
     where
-      go : (c : Verdict) → DetachEntry v strip c → P (number (unless_refused c v work))
+      go : (c : Result Unit Failure) → DetachEntry v strip c → P (number (unless_refused c v work))
       go c (Entry.height h) = height
       go c (Entry.view h k) = view
       go c (Entry.window r n) = absurd (n tt)
@@ -41,7 +41,7 @@ module _ (v : View) (strip : List ℕ) (P : ℕ → Type 0) (work : Done) where
   refreshed_number height view window bytes f =
       go (refreshed_checks v strip) ((refreshed_entry v strip (refreshed_checks v strip)).0 refl)
     where
-      go : (c : Verdict) → RefreshedEntry v strip c → P (number (unless_refused c v work))
+      go : (c : Result Unit Failure) → RefreshedEntry v strip c → P (number (unless_refused c v work))
       go c (Entry.height h) = height
       go c (Entry.view h k) = view
       go c (Entry.window r n) = window
@@ -51,11 +51,12 @@ module _ (v : View) (strip : List ℕ) (P : ℕ → Type 0) (work : Done) where
 -- a pass that was made answers with 0 or 24
 pass_number : (P : ℕ → Type 0) (v : View) (p : Pass) → P 0 → P 24 → P (number (passed v p))
 pass_number P v p zero offset =
-    by_said_lem (λ (a : Answer). P (told_of a).answer) p.said (λ e. zero) (λ e. zero) (λ e. offset)
+    by_said_lem (λ (a : Result ℕ Failure). P (told_of a).answer) p.said (λ e. zero) (λ e. zero) (λ e. offset)
 
 -- a detach that was made with 0, 24 or 25
 ends_number :
-    (P : ℕ → Type 0) {strip : List ℕ} {lent from attached read : ℕ} {a : Answer} → Ends strip lent from attached read a →
+    (P : ℕ → Type 0) {strip : List ℕ} {lent from attached read : ℕ} {a : Result ℕ Failure} →
+    Ends strip lent from attached read a →
     P 0 → P 24 → P 25 → P (told_of a).answer
 ends_number P (yes n k e c) zero offset budget = zero
 ends_number P (error n k f) zero offset budget = offset

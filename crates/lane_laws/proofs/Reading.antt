@@ -3,18 +3,15 @@ use Prim.Native.Nat.{ℕ, zero, suc, ◌+◌, ◌≤◌}
 use native.Mathlib.Omega.{arith}
 use mathlib.Core.Path.{◌≡◌, refl, sym, ◌∙◌}
 use mathlib.Core.List.{List}
-use mathlib.Core.Bool.{cond}
+use mathlib.Core.Bool.{cond, true, false}
 use Rattle.strips.specs.Strips.{byte_at}
 use Rattle.booleans.proofs.Tests.{by_cases}
 use Rattle.masks.specs.Masks.{lane_in}
-use Rattle.lane_rules.specs.declared.Said.{Said}
-use Rattle.lane_rules.specs.declared.Compared.{Compared}
-use Rattle.lane_rules.specs.declared.Pass.{Pass}
-use Rattle.lane_rules.specs.declared.Round.{Round}
-use Rattle.lane_rules.specs.Steps.{compared, refreshed}
-use Rattle.lane_rules.specs.Passes.{by_said, failed, cached_pass, try_lane, refreshed_from}
-use Rattle.lane_rules.specs.Rounds.{round}
+use Rattle.lane_rules.specs.Steps.{compared, refreshed, error_met, Compared}
+use Rattle.lane_rules.specs.Passes.{by_said, failed, cached_pass, try_lane, refreshed_from, Pass}
+use Rattle.lane_rules.specs.Rounds.{round, Round}
 use Rattle.lane_laws.proofs.Cases.{by_said_lem, yes_not_no, error_not_no}
+use Rattle.std.proofs.Common.{Ok, is_err}
 
 -- a part of a call that began where `from` bytes were read has read at least `least` and at most `most` of them
 pub record Reads (from least most read : ℕ) : Type 0 where
@@ -23,11 +20,11 @@ pub record Reads (from least most read : ℕ) : Type 0 where
 
 -- a refreshed pass as it begins, when no lane was tried
 abbrev pub begun : ℕ → ℕ → Pass
-begun attached read = record { said = Said.Yes; attached = attached; read = read }
+begun attached read = record { said = Ok true; attached = attached; read = read }
 
 -- a refreshed pass after a lane that it tried
 abbrev pub tried : Pass → Compared → Pass
-tried p c = record { said = by_said c.said Said.No Said.No Said.Error; attached = c.attached; read = p.read + 1 }
+tried p c = record { said = by_said c.said (Ok false) (Ok false) error_met; attached = c.attached; read = p.read + 1 }
 
 module _ (strip : List ℕ) (window : ℕ) where
   -- a cached pass reads at most a byte to a lane
@@ -72,13 +69,13 @@ module _ (strip : List ℕ) (window : ℕ) where
 
   -- one that says no, and did not before, has tried a lane, and so has read a byte
   pub no_reads :
-      (height : ℕ) (p : Pass) → p.said ≡ Said.Yes → (refreshed_from strip height window p).said ≡ Said.No →
+      (height : ℕ) (p : Pass) → p.said ≡ Ok true → (refreshed_from strip height window p).said ≡ Ok false →
       p.read + 1 ≤ (refreshed_from strip height window p).read
   unfolding refreshed_from try_lane
   no_reads zero p y = λ n. absurd (yes_not_no (sym y ∙ n))
   no_reads (suc lane) p y =
       let q = tried p (compared (byte_at strip p.read) lane p.attached) in
-      let P : Pass → Type 0 = λ r. r.said ≡ Said.No → p.read + 1 ≤ r.read in
+      let P : Pass → Type 0 = λ r. r.said ≡ Ok false → p.read + 1 ≤ r.read in
       let more = (refreshed_reads lane q).low in
       by_cases (λ (r : Pass). P (cond (failed r) r (refreshed_from strip lane window r))) (lane_in window lane)
       (λ e. by_cases P (failed q) (λ f n. omega arith) (λ f n. omega arith))
@@ -91,17 +88,17 @@ module _ (strip : List ℕ) (height : ℕ) where
   round_reads attached window read =
       let f = refreshed (byte_at strip read) attached window in
       let p = refreshed_reads strip f.window height (begun f.attached (read + 1)) in
-      by_cases (λ (r : Round). Reads read 1 (height + 1) r.read) f.failed
+      by_cases (λ (r : Round). Reads read 1 (height + 1) r.read) (is_err f.said)
       (λ e. record { low = omega arith; high = omega arith })
       (λ e. let a = p.low in let b = p.high in record { low = omega arith; high = omega arith })
 
   -- a round that says no has read two bytes: its refresh's, and that of a lane tried
   pub round_no_reads :
-      (attached window read : ℕ) → (round strip height attached window read).said ≡ Said.No →
+      (attached window read : ℕ) → (round strip height attached window read).said ≡ Ok false →
       read + 2 ≤ (round strip height attached window read).read
   unfolding round
   round_no_reads attached window read =
       let f = refreshed (byte_at strip read) attached window in
-      by_cases (λ (r : Round). r.said ≡ Said.No → read + 2 ≤ r.read) f.failed
+      by_cases (λ (r : Round). r.said ≡ Ok false → read + 2 ≤ r.read) (is_err f.said)
       (λ e n. absurd (error_not_no n))
       (λ e n. let a = no_reads strip f.window height (begun f.attached (read + 1)) refl n in omega arith)

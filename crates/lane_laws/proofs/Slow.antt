@@ -7,13 +7,11 @@ use mathlib.Core.List.{List}
 use mathlib.Core.Bool.{Bool, true, false}
 use lib.ListN.{length}
 use lib.Dec.{leb}
+use Rattle.std.proofs.Common.{Ok, Err}
 use borrow.Author.Tests.{le-leb, leb-true, leb-false}
 use Rattle.strips.specs.Strips.{most_bytes, proper_bytes, proper_strip, byte_at}
 use Rattle.booleans.proofs.Tests.{clash}
 use Rattle.masks.specs.Masks.{digit, lane_in, cleared, lanes_below}
-use Rattle.lane_rules.specs.declared.Said.{Said}
-use Rattle.lane_rules.specs.declared.Answer.{Answer}
-use Rattle.lane_rules.specs.declared.Verdict.{Verdict}
 use Rattle.lane_rules.specs.Answers.{is_accepted}
 use Rattle.lane_rules.specs.Steps.{compared, refreshed}
 use Rattle.lane_rules.specs.Passes.{cached_pass, try_lane, refreshed_from}
@@ -23,6 +21,7 @@ use Rattle.lane_laws.specs.Ends.{NoErrors}
 use Rattle.lane_laws.specs.Slow.{slow_strip, slow_view, AlwaysEnough}
 use Rattle.lane_laws.proofs.Enough.{accepted_had_rounds}
 use Rattle.lane_laws.proofs.Live.{more_rounds, no_errors_retire}
+use Rattle.lane_rules.specs.declared.Failure.{Failure}
 
 -- the slow strip has as many bytes as it is asked for
 pub slow_length : (n : ℕ) → length (slow_strip n) ≡ n
@@ -49,7 +48,7 @@ slow_no_errors (suc (suc n)) (suc zero) = omega arith
 slow_no_errors (suc (suc n)) (suc (suc i)) = slow_no_errors n i
 
 -- a detach of the slow view passes its checks
-pub slow_passes : (n : ℕ) → n ≤ most_bytes → entry_checks slow_view (slow_strip n) ≡ Verdict.Passes
+pub slow_passes : (n : ℕ) → n ≤ most_bytes → entry_checks slow_view (slow_strip n) ≡ Ok tt
 unfolding entry_checks bad_height bad_view bad_strip proper_strip lanes_below
 slow_passes n h = rw (slow_length n, le-leb n most_bytes h, slow_proper n)
 
@@ -65,14 +64,14 @@ module _ (strip : List ℕ) (window read : ℕ) (refreshes : byte_at strip read 
   -- a round whose compare says no keeps the one lane
   round_keeps :
       byte_at strip (read + 1) ≡ 1 →
-      round strip 1 1 window read ≡ record { said = Said.No; attached = 1; window = 1; read = read + 2 }
+      round strip 1 1 window read ≡ record { said = Ok false; attached = 1; window = 1; read = read + 2 }
   unfolding round refreshed refreshed_from try_lane compared digit lane_in
   round_keeps e = rw (refreshes, e, two)
 
   -- one whose compare says yes clears it, and says no all the same
   round_clears :
       byte_at strip (read + 1) ≡ 0 →
-      round strip 1 1 window read ≡ record { said = Said.No; attached = 0; window = 1; read = read + 2 }
+      round strip 1 1 window read ≡ record { said = Ok false; attached = 0; window = 1; read = read + 2 }
   unfolding round refreshed refreshed_from try_lane compared digit lane_in cleared
   round_clears e = rw (refreshes, e, two)
 
@@ -124,7 +123,8 @@ unfolding detach_of detaching cached_pass digit lane_in
 slow_start n lent h = rw (slow_passes n h)
 
 -- one round fewer than the bound is not enough
-pub slow_short : (n : ℕ) → n ≤ most_bytes → (detach_of slow_view (slow_strip n) (n / 2 + 1)).answer ≡ Answer.Budget (n / 2 + 1)
+pub slow_short :
+    (n : ℕ) → n ≤ most_bytes → (detach_of slow_view (slow_strip n) (n / 2 + 1)).answer ≡ Err (Failure.Budget (n / 2 + 1))
 unfolding rounds
 slow_short n h =
     rw (slow_start n (n / 2 + 1) h, slow_rounds (slow_strip n) n 0 0 0 0 (from_start (slow_strip n)), zero-add (n / 2 + 1))

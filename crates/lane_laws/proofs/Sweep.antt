@@ -3,19 +3,16 @@ use Prim.Native.Nat.{ℕ, zero, suc, ◌+◌, ◌≤◌}
 use native.Mathlib.Omega.{arith}
 use mathlib.Core.Path.{◌≡◌, refl, ap}
 use mathlib.Core.List.{List}
-use mathlib.Core.Bool.{false}
+use mathlib.Core.Bool.{false, true}
 use lib.ListN.{length, get_or-eq_default}
+use Rattle.std.proofs.Common.{Ok, is_err}
 use Rattle.strips.specs.Strips.{byte_at}
 use Rattle.booleans.proofs.Tests.{by_cases}
 use Rattle.masks.specs.Masks.{lane_in, Inside}
 use Rattle.masks.proofs.Lanes.{cleared_same, no_lane, inside_then}
-use Rattle.lane_rules.specs.declared.Said.{Said}
-use Rattle.lane_rules.specs.declared.Compared.{Compared}
-use Rattle.lane_rules.specs.declared.Pass.{Pass}
-use Rattle.lane_rules.specs.declared.Round.{Round}
-use Rattle.lane_rules.specs.Steps.{compared, refreshed}
-use Rattle.lane_rules.specs.Passes.{failed, try_lane, refreshed_from}
-use Rattle.lane_rules.specs.Rounds.{round}
+use Rattle.lane_rules.specs.Steps.{compared, refreshed, Compared}
+use Rattle.lane_rules.specs.Passes.{failed, try_lane, refreshed_from, Pass}
+use Rattle.lane_rules.specs.Rounds.{round, Round}
 use Rattle.lane_laws.specs.Clauses.{AllBelow, NoneBelow}
 use Rattle.lane_laws.proofs.Cases.{error_not_no}
 use Rattle.lane_laws.proofs.Reading.{begun, tried, try_reads}
@@ -69,14 +66,14 @@ nothing_tried strip window (suc lane) p none ok =
 pub round_no :
     (strip : List ℕ) (height attached window read : ℕ) →
     let r = round strip height attached window read in
-    length strip ≤ read + 1 → AllBelow attached height → r.said ≡ Said.No → r.attached ≡ 0
+    length strip ≤ read + 1 → AllBelow attached height → r.said ≡ Ok false → r.attached ≡ 0
 unfolding round
 round_no strip height attached window read past h =
     let f = refreshed (byte_at strip read) attached window in
     let p = begun f.attached (read + 1) in
     let once = refresh_leaves (byte_at strip read) attached window in
     let more = (refreshed_leaves strip f.window height p).clears.inside in
-    by_cases (λ (r : Round). r.said ≡ Said.No → r.attached ≡ 0) f.failed
+    by_cases (λ (r : Round). r.said ≡ Ok false → r.attached ≡ 0) (is_err f.said)
     (λ e n. absurd (error_not_no n))
     (λ e n.
     let w : Inside f.attached f.window = λ lane t. rw (once.sets e) t in
@@ -85,7 +82,7 @@ round_no strip height attached window read past h =
 
 -- with no lane left, a round past the strip's end says yes
 pub last_round :
-    (strip : List ℕ) (height window read : ℕ) → length strip ≤ read → (round strip height 0 window read).said ≡ Said.Yes
+    (strip : List ℕ) (height window read : ℕ) → length strip ≤ read → (round strip height 0 window read).said ≡ Ok true
 unfolding round refreshed
 last_round strip height window read past =
     let same = nothing_tried strip 0 height (begun 0 (read + 1)) (λ lane l. no_lane lane) refl in

@@ -2,17 +2,16 @@
 use Prim.Native.Nat.{ℕ}
 use mathlib.Core.Path.{◌≡◌, refl, sym, ap, ◌∙◌}
 use mathlib.Core.List.{List}
-use mathlib.Core.Bool.{true, false}
+use mathlib.Core.Bool.{true, false, Bool}
 use Rattle.booleans.proofs.Tests.{clash}
 use Rattle.masks.specs.Masks.{Inside}
 use Rattle.masks.proofs.Lanes.{no_lane, inside_same}
 use Rattle.lane_rules.specs.declared.View.{View}
-use Rattle.lane_rules.specs.declared.Said.{Said}
-use Rattle.lane_rules.specs.declared.Pass.{Pass}
-use Rattle.lane_rules.specs.declared.Ended.{Ended}
-use Rattle.lane_rules.specs.declared.Answer.{Answer}
+use Rattle.lane_rules.specs.declared.ErrorByte.{ErrorByte}
+use Rattle.lane_rules.specs.declared.Failure.{Failure}
+use Rattle.lane_rules.specs.Rounds.{Ended}
 use Rattle.lane_rules.specs.Answers.{is_accepted}
-use Rattle.lane_rules.specs.Passes.{by_said, cached_pass, try_lane, refreshed_from}
+use Rattle.lane_rules.specs.Passes.{by_said, cached_pass, try_lane, refreshed_from, Pass}
 use Rattle.lane_rules.specs.Calls.{view_with, passed, ended, cached_of, refreshed_of, detach_of}
 use Rattle.lane_laws.specs.Clauses.{NoneBelow, Valid, Frame, is_refusal, WindowClauses, CompareClauses, RefreshClauses}
 use Rattle.lane_laws.specs.Clauses.{RefreshBegins, RetireClauses, PassClauses, RefreshedClauses, DetachClauses}
@@ -23,6 +22,7 @@ use Rattle.lane_laws.proofs.Entry.{detach_cases, refreshed_cases}
 use Rattle.lane_laws.proofs.Frames.{below_inside, compare_leaves, refresh_leaves, Clears, cached_leaves, refreshed_leaves}
 use Rattle.lane_laws.proofs.Frames.{refreshed_yes, round_leaves, detaching_inside}
 use Rattle.lane_laws.proofs.Exactly.{detaching_ends, accepted_detached, ends_unrefused}
+use Rattle.std.proofs.Common.{Result, Ok, Err}
 
 -- a view in which lanes were cleared is in upstream's frame
 frame_inside :
@@ -100,21 +100,23 @@ pub retire_clauses : (v : View) → RetireClauses v
 retire_clauses v = record { retired = refl; attached = refl; height = refl; guarded = λ r. r.guard; window = refl }
 
 -- a pass gives no answer of a check
-told_unrefused : (s : Said) → is_refusal (by_said s (Answer.Accepted 1) (Answer.Accepted 0) (Answer.Offset 0)) ≡ false
-told_unrefused Said.Yes = refl
-told_unrefused Said.No = refl
-told_unrefused Said.Error = refl
+told_unrefused :
+    (s : Result Bool ErrorByte) →
+    is_refusal (by_said {A = Result ℕ Failure} s (Ok 1) (Ok 0) (Err (Failure.Offset 0))) ≡ false
+told_unrefused (Ok true) = refl
+told_unrefused (Ok false) = refl
+told_unrefused (Err _) = refl
 
 module _ (v : View) where
   -- a pass that a check refused
-  refused_pass : (a : Answer) → is_refusal a ≡ true → PassClauses v (record { answer = a; view = v })
+  refused_pass : (a : Failure) → is_refusal (Err a) ≡ true → PassClauses v (record { answer = Err a; view = v })
   refused_pass a h =
       record {
-        requires_valid = λ n. absurd (clash (is_refusal a) h n);
+        requires_valid = λ n. absurd (clash (is_refusal (Err a)) h n);
         refused = λ e. refl;
         valid = λ r. r;
         frame = frame_same v;
-        yes = λ e. absurd (clash (is_refusal a) h (ap is_refusal e));
+        yes = λ e. absurd (clash (is_refusal (Err a)) h (ap is_refusal e));
         window = refl;
         outside = λ lane n. refl;
       }
@@ -122,7 +124,7 @@ module _ (v : View) where
   -- a pass that went through the lanes
   worked_pass :
       (p : Pass) → Valid v → Clears v.window v.attached p.attached →
-      (p.said ≡ Said.Yes → NoneBelow p.attached v.height) → PassClauses v (passed v p)
+      (p.said ≡ Ok true → NoneBelow p.attached v.height) → PassClauses v (passed v p)
   worked_pass p r k y =
       record {
         requires_valid = λ n. r;
@@ -152,7 +154,7 @@ module _ (v : View) where
       refreshed_cases v strip (RefreshedClauses v) _
       (λ a h. record {
         pass = refused_pass a h;
-        requires_inside = λ n. absurd (clash (is_refusal a) h n);
+        requires_inside = λ n. absurd (clash (is_refusal (Err a)) h n);
         yes_same = λ e. refl;
       })
       (λ r i. record {
@@ -163,10 +165,10 @@ module _ (v : View) where
       })
 
   -- a detach that a check refused
-  refused_detach : (a : Answer) → is_refusal a ≡ true → DetachClauses v (record { answer = a; view = v })
+  refused_detach : (a : Failure) → is_refusal (Err a) ≡ true → DetachClauses v (record { answer = Err a; view = v })
   refused_detach a h =
       record {
-        requires_valid = λ n. absurd (clash (is_refusal a) h n);
+        requires_valid = λ n. absurd (clash (is_refusal (Err a)) h n);
         refused = λ e. refl;
         height = refl;
         guarded = refl;
@@ -182,8 +184,8 @@ module _ (v : View) where
         loop_frame = frame_same v;
       }
     where
-      never : is_accepted a ≡ true → ⊥
-      never e = clash (is_accepted a) e (refusal_not_accepted a h)
+      never : is_accepted (Err a) ≡ true → ⊥
+      never e = clash (is_accepted (Err a)) e (refusal_not_accepted (Err a) h)
 
   -- a detach that came to its end
   ended_detach :

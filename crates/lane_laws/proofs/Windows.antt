@@ -5,22 +5,19 @@ use mathlib.Core.Path.{◌≡◌, refl, sym, ap, ◌∙◌}
 use mathlib.Core.List.{List}
 use mathlib.Core.Bool.{Bool, true, false, not, cond}
 use lib.Dec.{eqb, leb}
+use Rattle.std.proofs.Common.{Result, Ok, Err}
 use borrow.Author.Tests.{ne_eqb, eqb-false, leb-true, leb-false}
 use Rattle.strips.specs.Strips.{byte_at}
 use Rattle.booleans.proofs.Tests.{clash, equal_tests}
 use Rattle.masks.specs.Masks.{lane_in, within}
 use Rattle.masks.proofs.Lanes.{below_same, within_lane, lane_within}
 use Rattle.lane_rules.specs.declared.View.{View}
-use Rattle.lane_rules.specs.declared.Said.{Said}
-use Rattle.lane_rules.specs.declared.Pass.{Pass}
-use Rattle.lane_rules.specs.declared.Ended.{Ended}
-use Rattle.lane_rules.specs.declared.Answer.{Answer}
-use Rattle.lane_rules.specs.declared.Verdict.{Verdict}
 use Rattle.lane_rules.specs.declared.Done.{Done}
+use Rattle.lane_rules.specs.declared.Failure.{Failure}
 use Rattle.lane_rules.specs.Answers.{is_accepted}
 use Rattle.lane_rules.specs.Steps.{compared, refreshed}
-use Rattle.lane_rules.specs.Passes.{cached_pass, try_lane, refreshed_from}
-use Rattle.lane_rules.specs.Rounds.{round, rounds, detaching}
+use Rattle.lane_rules.specs.Passes.{cached_pass, try_lane, refreshed_from, Pass}
+use Rattle.lane_rules.specs.Rounds.{round, rounds, detaching, Ended}
 use Rattle.lane_rules.specs.Calls.{bad_height, bad_view, bad_window, entry_checks, refreshed_checks, unless_refused, passed, ended}
 use Rattle.lane_rules.specs.Calls.{cached_of, refreshed_of, detach_of}
 use Rattle.lane_laws.specs.Clauses.{Valid, is_refusal}
@@ -74,7 +71,7 @@ module _ (strip : List ℕ) (height : ℕ) where
   rounds_failed :
       (left made attached window read : ℕ) → 1 < byte_at strip read →
       rounds strip height (suc left) made attached window read
-      ≡ record { answer = Answer.Offset (made + 1); attached = attached; window = window; read = read + 1 }
+      ≡ record { answer = Err (Failure.Offset (made + 1)); attached = attached; window = window; read = read + 1 }
   unfolding rounds round refreshed
   rounds_failed left made attached window read h =
       rw (ne_eqb (byte_at strip read) 0 (λ e. omega arith), ne_eqb (byte_at strip read) 1 (λ e. omega arith))
@@ -121,7 +118,7 @@ module _ (strip : List ℕ) (height : ℕ) where
   detaching_kept :
       (lent attached window : ℕ) →
       let p = cached_pass strip height window attached 0 in
-      (p.said ≡ Said.No → 0 < lent → byte_at strip p.read ≤ 1 → ⊥) →
+      (p.said ≡ Ok false → 0 < lent → byte_at strip p.read ≤ 1 → ⊥) →
       (detaching strip height lent attached window).window ≡ window
   unfolding detaching
   detaching_kept lent attached window f =
@@ -148,7 +145,7 @@ module _ (strip : List ℕ) (height : ℕ) where
     detaching_set :
         (lent attached : ℕ) →
         let p = cached_pass strip height a attached 0 in
-        p.said ≡ Said.No → 0 < lent → byte_at strip p.read ≤ 1 →
+        p.said ≡ Ok false → 0 < lent → byte_at strip p.read ≤ 1 →
         detaching strip height lent attached b ≡ detaching strip height lent attached a
     unfolding detaching
     detaching_set zero attached s some h = absurd (omega arith)
@@ -163,38 +160,38 @@ module _ (v : View) (window : ℕ) where
 
   -- and so does what a refused call leaves
   unless_same :
-      (c : Verdict) {x y : Done} → SameButWindow x y →
+      (c : Result Unit Failure) {x y : Done} → SameButWindow x y →
       SameButWindow (unless_refused c v x) (unless_refused c (with_window v window) y)
-  unless_same Verdict.Passes s = s
-  unless_same (Verdict.Refused a) s =
+  unless_same (Ok _) s = s
+  unless_same (Err a) s =
       record { answer = refl; height = refl; guarded = refl; retired = refl; attached = refl }
 
 module _ (v : View) (strip : List ℕ) where
   -- a cached pass that tells 0 was not refused, and said no
   told_no :
-      (cached_of v strip).answer ≡ Answer.Accepted 0 →
-      (entry_checks v strip ≡ Verdict.Passes) × ((cached_work v strip).said ≡ Said.No)
+      (cached_of v strip).answer ≡ Ok 0 →
+      (entry_checks v strip ≡ Ok tt) × ((cached_work v strip).said ≡ Ok false)
   unfolding cached_of
   told_no e = go (entry_checks v strip) refl
     where
       go :
-          (c : Verdict) → entry_checks v strip ≡ c →
-          (entry_checks v strip ≡ Verdict.Passes) × ((cached_work v strip).said ≡ Said.No)
-      go Verdict.Passes h = (h, no_told (cached_work v strip).said (rw h at e))
-      go (Verdict.Refused a) h =
-          let r = cached_refused v strip a h in absurd (clash (is_refusal a) r.number (ap is_refusal (rw h at e)))
+          (c : Result Unit Failure) → entry_checks v strip ≡ c →
+          (entry_checks v strip ≡ Ok tt) × ((cached_work v strip).said ≡ Ok false)
+      go (Ok _) h = (h, no_told (cached_work v strip).said (rw h at e))
+      go (Err a) h =
+          let r = cached_refused v strip a h in absurd (clash (is_refusal (Err a)) r.number (ap is_refusal (rw h at e)))
 
   -- where no refresh sets the window, a detach hands it back as it came; a pass always does (upstream's clause `window`)
   pub detach_window_kept : (lent : ℕ) → (SetsWindow v strip lent → ⊥) → (detach_of v strip lent).view.window ≡ v.window
   unfolding detach_of cached_of
   detach_window_kept lent f = go (entry_checks v strip) refl
     where
-      go : (c : Verdict) → entry_checks v strip ≡ c → (detach_of v strip lent).view.window ≡ v.window
-      go Verdict.Passes h =
+      go : (c : Result Unit Failure) → entry_checks v strip ≡ c → (detach_of v strip lent).view.window ≡ v.window
+      go (Ok _) h =
           rw h
           (detaching_kept strip v.height lent v.attached v.window
           (λ s some k. f record { no = rw (h, s); some = some; refreshes = k }))
-      go (Verdict.Refused a) h = rw h
+      go (Err a) h = rw h
 
   module _ (window : ℕ) (alike : AlikeBelow v.height v.window window) where
     -- the same lanes, one by one
@@ -253,7 +250,7 @@ module _ (v : View) (strip : List ℕ) where
           answer = same.0;
           height = refl;
           guarded = refl;
-          retired = ap (λ (a : Answer). cond (is_accepted a) 1 v.retired) same.0;
+          retired = ap (λ (a : Result ℕ Failure). cond (is_accepted a) 1 v.retired) same.0;
           attached = same.1;
         })
 

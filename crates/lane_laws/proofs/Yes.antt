@@ -4,21 +4,19 @@ use Prim.Native.Nat.{ℕ, zero, suc, ◌+◌}
 use native.Mathlib.Omega.{arith}
 use mathlib.Core.Path.{◌≡◌, refl, ◌∙◌}
 use mathlib.Core.List.{List}
-use mathlib.Core.Bool.{true}
+use mathlib.Core.Bool.{true, Bool}
 use mathlib.Core.Logic.{◌↔◌, ⊎_elim}
 use lib.Dec.{eqb}
+use Rattle.std.proofs.Common.{Result, Ok}
 use borrow.Author.Tests.{eqb-true, eqb-false}
 use Rattle.strips.specs.Strips.{byte_at}
 use Rattle.booleans.proofs.Tests.{by_cases, either}
 use Rattle.masks.specs.Masks.{lane_in, cleared, Inside}
 use Rattle.masks.proofs.Lanes.{cleared_other}
 use Rattle.lane_rules.specs.declared.View.{View}
-use Rattle.lane_rules.specs.declared.Said.{Said}
-use Rattle.lane_rules.specs.declared.Pass.{Pass}
-use Rattle.lane_rules.specs.declared.Answer.{Answer}
-use Rattle.lane_rules.specs.declared.Verdict.{Verdict}
+use Rattle.lane_rules.specs.declared.ErrorByte.{ErrorByte}
 use Rattle.lane_rules.specs.Steps.{compared}
-use Rattle.lane_rules.specs.Passes.{cached_pass}
+use Rattle.lane_rules.specs.Passes.{cached_pass, Pass}
 use Rattle.lane_rules.specs.Calls.{entry_checks, refreshed_checks, cached_of, refreshed_of}
 use Rattle.lane_laws.specs.Clauses.{NoneBelow, Says}
 use Rattle.lane_laws.specs.Ends.{cached_work, refreshed_work, AllCleared}
@@ -29,7 +27,7 @@ use Rattle.lane_laws.proofs.Sweep.{nothing_tried}
 
 -- a yes of a compare came at byte 0 on an attached lane
 pub said_yes :
-    (byte lane attached : ℕ) {s : Said} → Says byte lane attached s → s ≡ Said.Yes →
+    (byte lane attached : ℕ) {s : Result Bool ErrorByte} → Says byte lane attached s → s ≡ Ok true →
     (byte ≡ 0) × (lane_in attached lane ≡ true)
 said_yes byte lane attached (Says.clears b i) e = (b, i)
 said_yes byte lane attached (Says.absent b i) e = absurd (no_not_yes e)
@@ -53,7 +51,7 @@ module _ (strip : List ℕ) (window : ℕ) where
 
   -- after a yes of the cached pass every lane was cleared
   yes_cleared :
-      (height attached read : ℕ) → (cached_pass strip height window attached read).said ≡ Said.Yes →
+      (height attached read : ℕ) → (cached_pass strip height window attached read).said ≡ Ok true →
       AllCleared strip window attached read height
   unfolding cached_pass
   yes_cleared zero attached read =
@@ -66,7 +64,7 @@ module _ (strip : List ℕ) (window : ℕ) where
   yes_cleared (suc lane) attached read =
       let c = compared (byte_at strip read) lane attached in
       let leaves = compare_leaves (byte_at strip read) lane attached in
-      let P : Pass → Type 0 = λ p. p.said ≡ Said.Yes → AllCleared strip window attached read (suc lane) in
+      let P : Pass → Type 0 = λ p. p.said ≡ Ok true → AllCleared strip window attached read (suc lane) in
       by_cases P (lane_in window lane)
       (λ w. by_said_lem P c.said
       (λ s y. cleared_next lane attached c.attached read w (said_yes _ lane attached leaves.says s) leaves.inside
@@ -78,7 +76,7 @@ module _ (strip : List ℕ) (window : ℕ) where
   -- and where every lane can be, it says yes
   cleared_yes :
       (height attached read : ℕ) → AllCleared strip window attached read height →
-      (cached_pass strip height window attached read).said ≡ Said.Yes
+      (cached_pass strip height window attached read).said ≡ Ok true
   unfolding cached_pass compared
   cleared_yes zero attached read z = refl
   cleared_yes (suc lane) attached read z =
@@ -92,8 +90,8 @@ module _ (strip : List ℕ) (window : ℕ) where
 module _ (v : View) (strip : List ℕ) where
   -- the cached pass tells 1 exactly where every lane is in the window and attached, and every byte that it reads is 0
   pub cached_yes_exactly :
-      entry_checks v strip ≡ Verdict.Passes →
-      ((cached_of v strip).answer ≡ Answer.Accepted 1) ↔ AllCleared strip v.window v.attached 0 v.height
+      entry_checks v strip ≡ Ok tt →
+      ((cached_of v strip).answer ≡ Ok 1) ↔ AllCleared strip v.window v.attached 0 v.height
   unfolding cached_of
   cached_yes_exactly h = (
     λ e. yes_cleared strip v.window v.height v.attached 0 (yes_told (cached_work v strip).said (rw h at e)),
@@ -102,8 +100,8 @@ module _ (v : View) (strip : List ℕ) where
 
   -- the refreshed pass tells 1 exactly where no lane below the height is in the window
   pub refreshed_yes_exactly :
-      refreshed_checks v strip ≡ Verdict.Passes →
-      ((refreshed_of v strip).answer ≡ Answer.Accepted 1) ↔ NoneBelow v.window v.height
+      refreshed_checks v strip ≡ Ok tt →
+      ((refreshed_of v strip).answer ≡ Ok 1) ↔ NoneBelow v.window v.height
   unfolding refreshed_of
   refreshed_yes_exactly h = (
     λ e.

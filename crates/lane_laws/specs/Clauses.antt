@@ -1,18 +1,15 @@
 -- Upstream's contracts of the lane functions, clause by clause, said of the views that the rules leave.
-use Rattle.std.specs.Prelude.{ℕ, suc, ◌+◌, ◌<◌, ◌≤◌, ◌≡◌, List, Bool, true, false, ◌&&◌, leb}
+use Rattle.std.specs.Prelude.{ℕ, suc, ◌+◌, ◌<◌, ◌≤◌, ◌≡◌, List, Bool, true, false, ◌&&◌, leb, Result, Ok, Err, is_err}
 use Rattle.strips.specs.Strips.{proper_strip, byte_at}
 use Rattle.masks.specs.Masks.{most_lanes, lane_in, Inside}
 use Rattle.lane_rules.specs.declared.View.{View}
-use Rattle.lane_rules.specs.declared.Said.{Said}
-use Rattle.lane_rules.specs.declared.Pass.{Pass}
-use Rattle.lane_rules.specs.declared.Round.{Round}
-use Rattle.lane_rules.specs.declared.Answer.{Answer}
-use Rattle.lane_rules.specs.declared.Verdict.{Verdict}
 use Rattle.lane_rules.specs.declared.Done.{Done}
+use Rattle.lane_rules.specs.declared.ErrorByte.{ErrorByte}
+use Rattle.lane_rules.specs.declared.Failure.{Failure}
 use Rattle.lane_rules.specs.Answers.{told_of, is_accepted}
-use Rattle.lane_rules.specs.Steps.{compared, refreshed}
-use Rattle.lane_rules.specs.Passes.{by_said, failed, cached_pass, try_lane, refreshed_from}
-use Rattle.lane_rules.specs.Rounds.{round}
+use Rattle.lane_rules.specs.Steps.{compared, refreshed, error_met}
+use Rattle.lane_rules.specs.Passes.{by_said, failed, cached_pass, try_lane, refreshed_from, Pass}
+use Rattle.lane_rules.specs.Rounds.{round, Round}
 use Rattle.lane_rules.specs.Calls.{bad_height, bad_view, view_with}
 
 -- each lane of the mask is below the height
@@ -56,24 +53,24 @@ pub record Frame (a b : View) : Type 0 where
   pub inside : Inside b.attached a.attached
 
 -- cas_step
-pub record CasStep (a b : View) (lane : ℕ) (said : Said) : Type 0 where
+pub record CasStep (a b : View) (lane : ℕ) (said : Result Bool ErrorByte) : Type 0 where
   -- as frame says
   pub frame : Frame a b
   -- the window stays
   pub window : b.window ≡ a.window
   -- after a yes the lane is not attached
-  pub yes : said ≡ Said.Yes → lane_in b.attached lane ≡ false
+  pub yes : said ≡ Ok true → lane_in b.attached lane ≡ false
   -- after a no the attached lanes are as before
-  pub no : said ≡ Said.No → b.attached ≡ a.attached
+  pub no : said ≡ Ok false → b.attached ≡ a.attached
   -- every other lane is as before
   pub others : (other : ℕ) → (other ≡ lane → ⊥) → lane_in b.attached other ≡ lane_in a.attached other
 
 -- what a compare says, and where; each constructor shuts out the others
-pub data Says (byte lane attached : ℕ) : Said → Type 0 where
-  clears : byte ≡ 0 → lane_in attached lane ≡ true → Says byte lane attached Said.Yes
-  absent : byte ≡ 0 → lane_in attached lane ≡ false → Says byte lane attached Said.No
-  keeps : byte ≡ 1 → Says byte lane attached Said.No
-  fails : 1 < byte → Says byte lane attached Said.Error
+pub data Says (byte lane attached : ℕ) : Result Bool ErrorByte → Type 0 where
+  clears : byte ≡ 0 → lane_in attached lane ≡ true → Says byte lane attached (Ok true)
+  absent : byte ≡ 0 → lane_in attached lane ≡ false → Says byte lane attached (Ok false)
+  keeps : byte ≡ 1 → Says byte lane attached (Ok false)
+  fails : 1 < byte → Says byte lane attached error_met
 
 -- the view that a compare on a lane leaves
 abbrev pub compared_of : View → ℕ → ℕ → View
@@ -100,10 +97,10 @@ round_by v strip read = view_with v (round_from v strip read).attached (round_fr
 -- where the refreshes of a detach begin, as view and bytes read: after a cached pass that says no, and after each round that does
 pub data RefreshBegins (v : View) (strip : List ℕ) : View → ℕ → Type 0 where
   first :
-      (cached_pass strip v.height v.window v.attached 0).said ≡ Said.No →
+      (cached_pass strip v.height v.window v.attached 0).said ≡ Ok false →
       RefreshBegins v strip (cached_by v strip) (cached_pass strip v.height v.window v.attached 0).read
   next :
-      {w : View} {read : ℕ} → RefreshBegins v strip w read → (round_from w strip read).said ≡ Said.No →
+      {w : View} {read : ℕ} → RefreshBegins v strip w read → (round_from w strip read).said ≡ Ok false →
       RefreshBegins v strip (round_by w strip read) (round_from w strip read).read
 
 -- the view once the node is retired
@@ -115,23 +112,23 @@ abbrev pub before_retiring : View → Done → View
 before_retiring v o = view_with v o.view.attached o.view.window v.retired
 
 -- 20 to 23: what a check refuses with
-abbrev pub is_refusal : Answer → Bool
+abbrev pub is_refusal : Result ℕ Failure → Bool
 is_refusal a = leb 20 (told_of a).answer && leb (told_of a).answer 23
 
 -- what the checks at entry find, with what is asked of the window; each constructor shuts out the others
-pub data Entry (v : View) (Asked : Type 0) (strip : List ℕ) : Verdict → Type 0 where
-  height : bad_height v ≡ true → Entry v Asked strip (Verdict.Refused Answer.Height)
-  view : bad_height v ≡ false → bad_view v ≡ true → Entry v Asked strip (Verdict.Refused Answer.View)
-  window : Valid v → (Asked → ⊥) → Entry v Asked strip (Verdict.Refused Answer.Window)
-  bytes : Valid v → Asked → proper_strip strip ≡ false → Entry v Asked strip (Verdict.Refused Answer.Strip)
-  passes : Valid v → Asked → proper_strip strip ≡ true → Entry v Asked strip Verdict.Passes
+pub data Entry (v : View) (Asked : Type 0) (strip : List ℕ) : Result Unit Failure → Type 0 where
+  height : bad_height v ≡ true → Entry v Asked strip (Err Failure.Height)
+  view : bad_height v ≡ false → bad_view v ≡ true → Entry v Asked strip (Err Failure.View)
+  window : Valid v → (Asked → ⊥) → Entry v Asked strip (Err Failure.Window)
+  bytes : Valid v → Asked → proper_strip strip ≡ false → Entry v Asked strip (Err Failure.Strip)
+  passes : Valid v → Asked → proper_strip strip ≡ true → Entry v Asked strip (Ok tt)
 
 -- of the cached pass and of detach, which ask nothing of it
-abbrev pub DetachEntry : View → List ℕ → Verdict → Type 0
+abbrev pub DetachEntry : View → List ℕ → Result Unit Failure → Type 0
 DetachEntry v = Entry v (Unit {0})
 
 -- of the refreshed pass, which asks that every attached lane is in it
-abbrev pub RefreshedEntry : View → List ℕ → Verdict → Type 0
+abbrev pub RefreshedEntry : View → List ℕ → Result Unit Failure → Type 0
 RefreshedEntry v = Entry v (Inside v.attached v.window)
 
 -- window_contains: at each lane a pass goes by whether the window has it, and by nothing else
@@ -139,7 +136,7 @@ pub record WindowClauses (v : View) (lane : ℕ) : Type 0 where
   -- a cached pass says no at a lane outside the window
   pub cached_stops :
       lane_in v.window lane ≡ false → (strip : List ℕ) (attached read : ℕ) →
-      cached_pass strip (suc lane) v.window attached read ≡ record { said = Said.No; attached = attached; read = read }
+      cached_pass strip (suc lane) v.window attached read ≡ record { said = Ok false; attached = attached; read = read }
   -- a refreshed pass, in which no error was met so far, goes on to the next
   pub refreshed_skips :
       lane_in v.window lane ≡ false → (strip : List ℕ) (p : Pass) → failed p ≡ false →
@@ -150,14 +147,14 @@ pub record WindowClauses (v : View) (lane : ℕ) : Type 0 where
       let c = compared (byte_at strip read) lane attached in
       cached_pass strip (suc lane) v.window attached read ≡
       by_said c.said (cached_pass strip lane v.window c.attached (read + 1))
-      (record { said = Said.No; attached = c.attached; read = read + 1 })
-      (record { said = Said.Error; attached = c.attached; read = read + 1 })
+      (record { said = Ok false; attached = c.attached; read = read + 1 })
+      (record { said = error_met; attached = c.attached; read = read + 1 })
   -- a refreshed pass tries it too, and no longer says yes
   pub refreshed_tries :
       lane_in v.window lane ≡ true → (strip : List ℕ) (p : Pass) →
       let c = compared (byte_at strip p.read) lane p.attached in
       try_lane strip v.window lane p ≡
-      record { said = by_said c.said Said.No Said.No Said.Error; attached = c.attached; read = p.read + 1 }
+      record { said = by_said c.said (Ok false) (Ok false) error_met; attached = c.attached; read = p.read + 1 }
 
 -- detach_lane, of any view and any lane
 pub record CompareClauses (v : View) (byte lane : ℕ) : Type 0 where
@@ -170,7 +167,7 @@ pub record CompareClauses (v : View) (byte lane : ℕ) : Type 0 where
   -- as cas_step says, with an error too
   pub step : CasStep v (compared_of v byte lane) lane (compared byte lane v.attached).said
   -- with an error the attached lanes are as before, and so is all else
-  pub errors : (compared byte lane v.attached).said ≡ Said.Error → compared_of v byte lane ≡ v
+  pub errors : (compared byte lane v.attached).said ≡ error_met → compared_of v byte lane ≡ v
   -- yes, no and error come by the byte; upstream leaves open which
   pub says : Says byte lane v.attached (compared byte lane v.attached).said
 
@@ -182,9 +179,10 @@ pub record RefreshClauses (v : View) (byte : ℕ) : Type 0 where
   pub frame : Frame v (refreshed_by v byte)
   -- without an error the window is then the attached lanes
   pub ok_window :
-      (refreshed byte v.attached v.window).failed ≡ false → (refreshed_by v byte).window ≡ (refreshed_by v byte).attached
+      is_err (refreshed byte v.attached v.window).said ≡ false →
+      (refreshed_by v byte).window ≡ (refreshed_by v byte).attached
   -- with an error all is as before; upstream leaves the window open
-  pub errors : (refreshed byte v.attached v.window).failed ≡ true → refreshed_by v byte ≡ v
+  pub errors : is_err (refreshed byte v.attached v.window).said ≡ true → refreshed_by v byte ≡ v
 
 -- retire_node
 pub record RetireClauses (v : View) : Type 0 where
@@ -210,7 +208,7 @@ pub record PassClauses (v : View) (o : Done) : Type 0 where
   -- as frame says
   pub frame : Frame v o.view
   -- after a yes no lane is attached
-  pub yes : o.answer ≡ Answer.Accepted 1 → Detached o.view
+  pub yes : o.answer ≡ Ok 1 → Detached o.view
   -- the window stays; upstream leaves it open
   pub window : o.view.window ≡ v.window
   -- no lane outside the window was tried
@@ -223,7 +221,7 @@ pub record RefreshedClauses (v : View) (o : Done) : Type 0 where
   -- requires that every attached lane is in the window
   pub requires_inside : is_refusal o.answer ≡ false → Inside v.attached v.window
   -- a yes has tried no lane
-  pub yes_same : o.answer ≡ Answer.Accepted 1 → o.view ≡ v
+  pub yes_same : o.answer ≡ Ok 1 → o.view ≡ v
 
 -- detach_before_retire
 pub record DetachClauses (v : View) (o : Done) : Type 0 where

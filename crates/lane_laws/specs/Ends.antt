@@ -1,16 +1,14 @@
 -- The words in which the laws say how a pass and a detach end.
-use Rattle.std.specs.Prelude.{ℕ, zero, suc, ◌+◌, ◌-◌, ◌/◌, ◌≤◌, ◌<◌, ◌≡◌, List, [], ◌∷◌, true, false, cond, ◌⊎◌, length}
+use Rattle.std.specs.Prelude.{ℕ, zero, suc, ◌+◌, ◌-◌, ◌/◌, ◌≤◌, ◌<◌, ◌≡◌, List, [], ◌∷◌, true, false, cond, ◌⊎◌, length, Result, Ok, Err, Bool}
 use Rattle.strips.specs.Strips.{byte_at}
 use Rattle.masks.specs.Masks.{lane_in}
 use Rattle.lane_rules.specs.declared.View.{View}
-use Rattle.lane_rules.specs.declared.Said.{Said}
-use Rattle.lane_rules.specs.declared.Pass.{Pass}
-use Rattle.lane_rules.specs.declared.Ended.{Ended}
-use Rattle.lane_rules.specs.declared.Answer.{Answer}
 use Rattle.lane_rules.specs.declared.Done.{Done}
+use Rattle.lane_rules.specs.declared.ErrorByte.{ErrorByte}
+use Rattle.lane_rules.specs.declared.Failure.{Failure}
 use Rattle.lane_rules.specs.Answers.{told_of, is_accepted}
-use Rattle.lane_rules.specs.Passes.{cached_pass, refreshed_pass}
-use Rattle.lane_rules.specs.Rounds.{detaching}
+use Rattle.lane_rules.specs.Passes.{cached_pass, refreshed_pass, Pass}
+use Rattle.lane_rules.specs.Rounds.{detaching, Ended}
 use Rattle.lane_rules.specs.Calls.{detach_of}
 use Rattle.lane_laws.specs.Clauses.{is_refusal}
 
@@ -41,16 +39,16 @@ pub record Fault (strip : List ℕ) (from to : ℕ) : Type 0 where
   pub last : 1 < byte_at strip (to - 1)
 
 -- an error is said exactly where the last byte read was one
-abbrev pub Heard : List ℕ → ℕ → ℕ → Said → Type 0
-Heard strip from to Said.Yes = Clean strip from to
-Heard strip from to Said.No = Clean strip from to
-Heard strip from to Said.Error = Fault strip from to
+abbrev pub Heard : List ℕ → ℕ → ℕ → Result Bool ErrorByte → Type 0
+Heard strip from to (Ok true) = Clean strip from to
+Heard strip from to (Ok false) = Clean strip from to
+Heard strip from to (Err _) = Fault strip from to
 
 -- a refusal tells its number and the value 0, and changes nothing
-pub record RefusedWith (a : Answer) (v : View) (o : Done) : Type 0 where
-  pub number : is_refusal a ≡ true
-  pub value : (told_of a).value ≡ 0
-  pub same : o ≡ record { answer = a; view = v }
+pub record RefusedWith (a : Failure) (v : View) (o : Done) : Type 0 where
+  pub number : is_refusal (Err a) ≡ true
+  pub value : (told_of (Err a)).value ≡ 0
+  pub same : o ≡ record { answer = Err a; view = v }
 
 -- each lane below the height is in the window and attached, and each byte for it, from a place on, is 0
 pub record AllCleared (strip : List ℕ) (window attached read height : ℕ) : Type 0 where
@@ -96,24 +94,24 @@ lanes_tried window zero = 0
 lanes_tried window (suc lane) = cond (lane_in window lane) 1 0 + lanes_tried window lane
 
 -- a pass ends with a yes and no lane attached, with a no, or at an error byte
-pub data PassEnds (strip : List ℕ) (attached read : ℕ) : Answer → Type 0 where
-  said_yes : attached ≡ 0 → Clean strip 0 read → PassEnds strip attached read (Answer.Accepted 1)
-  said_no : Clean strip 0 read → PassEnds strip attached read (Answer.Accepted 0)
-  said_error : Fault strip 0 read → PassEnds strip attached read (Answer.Offset 0)
+pub data PassEnds (strip : List ℕ) (attached read : ℕ) : Result ℕ Failure → Type 0 where
+  said_yes : attached ≡ 0 → Clean strip 0 read → PassEnds strip attached read (Ok 1)
+  said_no : Clean strip 0 read → PassEnds strip attached read (Ok 0)
+  said_error : Fault strip 0 read → PassEnds strip attached read (Err (Failure.Offset 0))
 
 -- at most `lent` rounds, from byte `from` on, end with a yes and no lane attached, or at an error byte, or when all are used up
-pub data Ends (strip : List ℕ) (lent from attached read : ℕ) : Answer → Type 0 where
-  yes : (n : ℕ) → n ≤ lent → attached ≡ 0 → Clean strip from read → Ends strip lent from attached read (Answer.Accepted n)
-  error : (n : ℕ) → n ≤ lent → Fault strip from read → Ends strip lent from attached read (Answer.Offset n)
-  spent : Clean strip from read → Ends strip lent from attached read (Answer.Budget lent)
+pub data Ends (strip : List ℕ) (lent from attached read : ℕ) : Result ℕ Failure → Type 0 where
+  yes : (n : ℕ) → n ≤ lent → attached ≡ 0 → Clean strip from read → Ends strip lent from attached read (Ok n)
+  error : (n : ℕ) → n ≤ lent → Fault strip from read → Ends strip lent from attached read (Err (Failure.Offset n))
+  spent : Clean strip from read → Ends strip lent from attached read (Err (Failure.Budget lent))
 
 -- not 24: it met no storage error
-abbrev pub MetNoError : Answer → Type 0
-MetNoError a = (n : ℕ) → a ≡ Answer.Offset n → ⊥
+abbrev pub MetNoError : Result ℕ Failure → Type 0
+MetNoError a = (n : ℕ) → a ≡ Err (Failure.Offset n) → ⊥
 
 -- not 25: its rounds were enough
-abbrev pub HadRounds : Answer → Type 0
-HadRounds a = (n : ℕ) → a ≡ Answer.Budget n → ⊥
+abbrev pub HadRounds : Result ℕ Failure → Type 0
+HadRounds a = (n : ℕ) → a ≡ Err (Failure.Budget n) → ⊥
 
 -- the node is retired, and no lane leads to it
 pub record Retired (o : Done) : Type 0 where

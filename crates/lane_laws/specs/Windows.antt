@@ -1,9 +1,8 @@
 -- The words in which the laws say what a call makes of the window.
-use Rattle.std.specs.Prelude.{ℕ, ◌≤◌, ◌<◌, ◌≡◌, List}
+use Rattle.std.specs.Prelude.{ℕ, ◌≤◌, ◌<◌, ◌≡◌, List, Ok}
 use Rattle.strips.specs.Strips.{byte_at}
 use Rattle.masks.specs.Masks.{lanes_below}
 use Rattle.lane_rules.specs.declared.View.{View}
-use Rattle.lane_rules.specs.declared.Answer.{Answer}
 use Rattle.lane_rules.specs.declared.Done.{Done}
 use Rattle.lane_rules.specs.Calls.{view_with, cached_of}
 use Rattle.lane_laws.specs.Ends.{cached_work}
@@ -26,6 +25,6 @@ pub record SameButWindow (a b : Done) : Type 0 where
 
 -- the first refresh of a detach sets the window: the cached pass says no, a round is lent, and the byte of its refresh is no error
 pub record SetsWindow (v : View) (strip : List ℕ) (lent : ℕ) : Type 0 where
-  pub no : (cached_of v strip).answer ≡ Answer.Accepted 0
+  pub no : (cached_of v strip).answer ≡ Ok 0
   pub some : 0 < lent
   pub refreshes : byte_at strip (cached_work v strip).read ≤ 1

@@ -1,3 +1,3 @@
--- The laws of a refresh and of the rounds: one for each way that a step or a turn can go.
-pub mod Refreshes
+-- The laws of a round and of the rounds: one for each way that a step or a turn can go.
+pub mod Ahead
 pub mod Rounding

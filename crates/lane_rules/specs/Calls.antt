@@ -1,16 +1,13 @@
 -- The three calls: the checks at entry in their order, then the work, and what is left in the view.
-use Rattle.std.specs.Prelude.{ℕ, List, Bool, cond, not, ◌||◌, eqb, ltb}
+use Rattle.std.specs.Prelude.{ℕ, List, Bool, cond, not, ◌||◌, eqb, ltb, Result, Ok, Err}
 use Rattle.strips.specs.Strips.{proper_strip}
 use Rattle.masks.specs.Masks.{most_lanes, lanes_below, within}
-use Rattle.lane_rules.specs.declared.Ended.{Ended}
 use Rattle.lane_rules.specs.declared.Done.{Done}
-use Rattle.lane_rules.specs.declared.Pass.{Pass}
 use Rattle.lane_rules.specs.declared.View.{View}
-use Rattle.lane_rules.specs.declared.Answer.{Answer}
-use Rattle.lane_rules.specs.declared.Verdict.{Verdict}
+use Rattle.lane_rules.specs.declared.Failure.{Failure}
 use Rattle.lane_rules.specs.Answers.{is_accepted}
-use Rattle.lane_rules.specs.Passes.{by_said, cached_pass, refreshed_pass}
-use Rattle.lane_rules.specs.Rounds.{detaching}
+use Rattle.lane_rules.specs.Passes.{Pass, by_said, cached_pass, refreshed_pass}
+use Rattle.lane_rules.specs.Rounds.{Ended, detaching}
 
 -- 20 HEIGHT: 0 or above 32
 unfoldable pub bad_height : View → Bool
@@ -29,29 +26,29 @@ bad_window v = not (within v.attached v.window)
 unfoldable pub bad_strip : List ℕ → Bool
 bad_strip strip = not (proper_strip strip)
 
--- the answer where its test applies, and else what comes next
-abbrev pub refuse : Bool → Answer → Verdict → Verdict
-refuse applies a next = cond applies (Verdict.Refused a) next
+-- the failure where its test applies, and else what comes next
+abbrev pub refuse : Bool → Failure → Result Unit Failure → Result Unit Failure
+refuse applies a next = cond applies (Err a) next
 
 -- the checks of the cached pass and of detach: the first that applies is given
-unfoldable pub entry_checks : View → List ℕ → Verdict
+unfoldable pub entry_checks : View → List ℕ → Result Unit Failure
 entry_checks v strip =
-    refuse (bad_height v) Answer.Height
-    (refuse (bad_view v) Answer.View
-    (refuse (bad_strip strip) Answer.Strip Verdict.Passes))
+    refuse (bad_height v) Failure.Height
+    (refuse (bad_view v) Failure.View
+    (refuse (bad_strip strip) Failure.Strip (Ok tt)))
 
 -- the checks of the refreshed pass
-unfoldable pub refreshed_checks : View → List ℕ → Verdict
+unfoldable pub refreshed_checks : View → List ℕ → Result Unit Failure
 refreshed_checks v strip =
-    refuse (bad_height v) Answer.Height
-    (refuse (bad_view v) Answer.View
-    (refuse (bad_window v) Answer.Window
-    (refuse (bad_strip strip) Answer.Strip Verdict.Passes)))
+    refuse (bad_height v) Failure.Height
+    (refuse (bad_view v) Failure.View
+    (refuse (bad_window v) Failure.Window
+    (refuse (bad_strip strip) Failure.Strip (Ok tt))))
 
 -- the outcome of a refusal, which changes nothing, or else that of the work
-abbrev pub unless_refused : Verdict → View → Done → Done
-unless_refused Verdict.Passes v work = work
-unless_refused (Verdict.Refused a) v work = record { answer = a; view = v }
+abbrev pub unless_refused : Result Unit Failure → View → Done → Done
+unless_refused (Ok e) v work = work
+unless_refused (Err a) v work = record { answer = Err a; view = v }
 
 -- the view with other masks and another retired flag
 abbrev pub view_with : View → ℕ → ℕ → ℕ → View
@@ -62,7 +59,7 @@ view_with v attached window retired =
 abbrev pub passed : View → Pass → Done
 passed v p =
     record {
-      answer = by_said p.said (Answer.Accepted 1) (Answer.Accepted 0) (Answer.Offset 0);
+      answer = by_said p.said (Ok 1) (Ok 0) (Err (Failure.Offset 0));
       view = view_with v p.attached v.window v.retired;
     }
 

@@ -2,6 +2,10 @@
 // specs/, which a reader takes in this order: Steps, Passes, Rounds, Answers, Calls, and then Examples, where they are tried.
 #![tactic(auto)]
 
+ghost use Rattle.std.specs.Prelude.{◌≡◌};
+ghost use Rattle.lane_rules.specs.declared.Failure.{Failure};
+ghost use Rattle.lane_rules.specs.Answers.{told_of};
+
 // One node as its lanes are being detached. The numbers come from outside, so the two flags are numbers too: 0, or 1 where they
 // are set. Attached and window are masks of 32 lanes: lane l is bit l.
 #[repr(C)]
@@ -18,61 +22,17 @@ pub struct View {
     pub window: u32,
 }
 
-// What a compare or a pass says. An error ends the call.
-#[derive(Clone, Copy)]
-pub enum Said {
-    Yes,
-    No,
-    Error,
-}
+// An error byte was read, which ends the call.
+#[derive(Clone, Copy, Debug, PartialEq, Eq)]
+pub struct ErrorByte;
 
-// What a compare says, and the attached lanes that it leaves.
-#[derive(Clone, Copy)]
-pub struct Compared {
-    pub said: Said,
-    pub attached: u32,
-}
+// What a compare, a pass or a round says: yes or no, or else that it met an error.
+pub type Said = Result<bool, ErrorByte>;
 
-// Whether a refresh failed, and the attached lanes and the window that it leaves.
-#[derive(Clone, Copy)]
-pub struct Refreshed {
-    pub failed: bool,
-    pub attached: u32,
-    pub window: u32,
-}
-
-// What a pass says, the attached lanes that it leaves, and how many bytes of the strip are then read.
-#[derive(Clone, Copy)]
-pub struct Pass {
-    pub said: Said,
-    pub attached: u32,
-    pub read: usize,
-}
-
-// What a round says, the two masks that it leaves, and how many bytes of the strip are then read.
-#[derive(Clone, Copy)]
-pub struct Round {
-    pub said: Said,
-    pub attached: u32,
-    pub window: u32,
-    pub read: usize,
-}
-
-// How a detach ended: the answer with the rounds made, the two masks that it leaves, and how many bytes of the strip are then
-// read.
-#[derive(Clone, Copy)]
-pub struct Ended {
-    pub answer: Answer,
-    pub attached: u32,
-    pub window: u32,
-    pub read: usize,
-}
-
-// The answers, a variant for each number that an operator sees (specs/Answers.antt gives number and value).
-#[derive(Clone, Copy)]
-pub enum Answer {
-    // 0. Of a pass: 1 where it says yes, 0 where it says no. Of a detach, which has retired the node: the rounds made.
-    Accepted(u32),
+// What an answer says where the call is not accepted, a variant for each number that an operator sees (specs/Answers.antt gives
+// number and value).
+#[derive(Clone, Copy, Debug, PartialEq, Eq)]
+pub enum Failure {
     // 20: the height is 0 or above 32.
     Height,
     // 21: the view is not guarded, or it is retired, or a lane at or above the height is attached.
@@ -87,6 +47,19 @@ pub enum Answer {
     Budget(u32),
 }
 
+// An error byte that no round has read is 24 with no round made.
+impl From<ErrorByte> for Failure {
+    ghost from_gives = { λ _ failure. failure ≡ Failure.Offset 0 };
+
+    fn from(_met: ErrorByte) -> Failure {
+        Failure::Offset(0)
+    }
+}
+
+// The answer of a call. It is 0 where the call is accepted, with a value: of a pass 1 where it says yes, 0 where it says no; of a
+// detach, which has retired the node, the rounds made.
+pub type Answer = Result<u32, Failure>;
+
 // An answer as two numbers: the answer's own, and its value.
 #[repr(C)]
 #[derive(Clone, Copy)]
@@ -95,11 +68,22 @@ pub struct Told {
     pub value: u32,
 }
 
-// What the checks at entry find.
-#[derive(Clone, Copy)]
-pub enum Verdict {
-    Passes,
-    Refused(Answer),
+// The number of an answer and its value.
+impl From<Answer> for Told {
+    ghost from_gives = { λ answer told. told ≡ told_of answer };
+
+    fn from(answer: Answer) -> Told {
+        let (answer, value) = match answer {
+            Ok(value) => (0, value),
+            Err(Failure::Height) => (20, 0),
+            Err(Failure::View) => (21, 0),
+            Err(Failure::Window) => (22, 0),
+            Err(Failure::Strip) => (23, 0),
+            Err(Failure::Offset(rounds)) => (24, rounds),
+            Err(Failure::Budget(rounds)) => (25, rounds),
+        };
+        Told { answer, value }
+    }
 }
 
 // What a call answers, and the view that it leaves. The view goes by value: the next call on this node takes this one.

@@ -6,12 +6,12 @@ use mathlib.Core.List.{List}
 use mathlib.Core.Bool.{true}
 use mathlib.Core.Logic.{◌↔◌}
 use lib.ListN.{length}
+use Rattle.std.proofs.Common.{Result, Ok, Err}
 use Rattle.strips.specs.Strips.{most_bytes, byte_at}
 use Rattle.lent_lists.specs.Among.{among}
 use Rattle.lane_rules.specs.declared.View.{View}
-use Rattle.lane_rules.specs.declared.Answer.{Answer}
-use Rattle.lane_rules.specs.declared.Verdict.{Verdict}
 use Rattle.lane_rules.specs.declared.Done.{Done}
+use Rattle.lane_rules.specs.declared.Failure.{Failure}
 use Rattle.lane_rules.specs.Answers.{told_of, is_accepted}
 use Rattle.lane_rules.specs.Calls.{entry_checks, refreshed_checks, cached_of, refreshed_of, detach_of}
 use Rattle.lane_laws.specs.Clauses.{NoneBelow, PassClauses, RefreshedClauses, DetachClauses}
@@ -41,7 +41,7 @@ module _ (v : View) (strip : List ℕ) (r : Done) (p : CachedPromise v strip r) 
   cached_clauses = cached_so (PassClauses v) (upstream.cached_clauses v strip)
 
   -- each of its answers exactly in its place
-  pub cached_exactly : (a : Answer) → (r.answer ≡ a) ↔ CachedAnswers v strip a
+  pub cached_exactly : (a : Result ℕ Failure) → (r.answer ≡ a) ↔ CachedAnswers v strip a
   cached_exactly a = cached_so (λ (o : Done). (o.answer ≡ a) ↔ CachedAnswers v strip a) (places.cached_exactly v strip a)
 
   -- it answers with 0, 20, 21, 23 or 24
@@ -51,26 +51,26 @@ module _ (v : View) (strip : List ℕ) (r : Done) (p : CachedPromise v strip r) 
 
   -- it tells 1 exactly where every lane is in the window and attached, and every byte that it reads is 0
   pub cached_yes_exactly :
-      entry_checks v strip ≡ Verdict.Passes →
-      (r.answer ≡ Answer.Accepted 1) ↔ AllCleared strip v.window v.attached 0 v.height
+      entry_checks v strip ≡ Ok tt →
+      (r.answer ≡ Ok 1) ↔ AllCleared strip v.window v.attached 0 v.height
   cached_yes_exactly c =
-      cached_so (λ (o : Done). (o.answer ≡ Answer.Accepted 1) ↔ AllCleared strip v.window v.attached 0 v.height)
+      cached_so (λ (o : Done). (o.answer ≡ Ok 1) ↔ AllCleared strip v.window v.attached 0 v.height)
       (yes.cached_yes_exactly v strip c)
 
   -- it tells 0 exactly where it comes to a lane that is outside the window, or has byte 1, or has byte 0 and is not attached
   pub cached_no_exactly :
-      entry_checks v strip ≡ Verdict.Passes →
-      (r.answer ≡ Answer.Accepted 0) ↔ SomeNo strip v.window v.attached 0 v.height
+      entry_checks v strip ≡ Ok tt →
+      (r.answer ≡ Ok 0) ↔ SomeNo strip v.window v.attached 0 v.height
   cached_no_exactly c =
-      cached_so (λ (o : Done). (o.answer ≡ Answer.Accepted 0) ↔ SomeNo strip v.window v.attached 0 v.height)
+      cached_so (λ (o : Done). (o.answer ≡ Ok 0) ↔ SomeNo strip v.window v.attached 0 v.height)
       (no.cached_no_exactly v strip c)
 
   -- it is 24 exactly where it comes to a lane of the window whose byte is an error
   pub cached_offset_exactly :
-      entry_checks v strip ≡ Verdict.Passes →
-      (r.answer ≡ Answer.Offset 0) ↔ SomeError strip v.window v.attached 0 v.height
+      entry_checks v strip ≡ Ok tt →
+      (r.answer ≡ Err (Failure.Offset 0)) ↔ SomeError strip v.window v.attached 0 v.height
   cached_offset_exactly c =
-      cached_so (λ (o : Done). (o.answer ≡ Answer.Offset 0) ↔ SomeError strip v.window v.attached 0 v.height)
+      cached_so (λ (o : Done). (o.answer ≡ Err (Failure.Offset 0)) ↔ SomeError strip v.window v.attached 0 v.height)
       (no.cached_offset_exactly v strip c)
 
 module _ (v : View) (strip : List ℕ) (r : Done) (p : RefreshedPromise v strip r) where
@@ -83,7 +83,7 @@ module _ (v : View) (strip : List ℕ) (r : Done) (p : RefreshedPromise v strip 
   refreshed_clauses = refreshed_so (RefreshedClauses v) (upstream.refreshed_clauses v strip)
 
   -- each of its answers exactly in its place
-  pub refreshed_exactly : (a : Answer) → (r.answer ≡ a) ↔ RefreshedAnswers v strip a
+  pub refreshed_exactly : (a : Result ℕ Failure) → (r.answer ≡ a) ↔ RefreshedAnswers v strip a
   refreshed_exactly a =
       refreshed_so (λ (o : Done). (o.answer ≡ a) ↔ RefreshedAnswers v strip a) (places.refreshed_exactly v strip a)
 
@@ -94,31 +94,31 @@ module _ (v : View) (strip : List ℕ) (r : Done) (p : RefreshedPromise v strip 
 
   -- it tells 1 exactly where no lane below the height is in the window
   pub refreshed_yes_exactly :
-      refreshed_checks v strip ≡ Verdict.Passes →
-      (r.answer ≡ Answer.Accepted 1) ↔ NoneBelow v.window v.height
+      refreshed_checks v strip ≡ Ok tt →
+      (r.answer ≡ Ok 1) ↔ NoneBelow v.window v.height
   refreshed_yes_exactly c =
-      refreshed_so (λ (o : Done). (o.answer ≡ Answer.Accepted 1) ↔ NoneBelow v.window v.height)
+      refreshed_so (λ (o : Done). (o.answer ≡ Ok 1) ↔ NoneBelow v.window v.height)
       (yes.refreshed_yes_exactly v strip c)
 
   -- it tells 0 exactly where some lane below the height is in the window, and of the strip's first bytes, one to each such lane,
   -- none is an error
   pub refreshed_no_exactly :
-      refreshed_checks v strip ≡ Verdict.Passes →
-      (r.answer ≡ Answer.Accepted 0)
+      refreshed_checks v strip ≡ Ok tt →
+      (r.answer ≡ Ok 0)
       ↔ ((0 < lanes_tried v.window v.height) × Clean strip 0 (lanes_tried v.window v.height))
   refreshed_no_exactly c =
       refreshed_so
-      (λ (o : Done). (o.answer ≡ Answer.Accepted 0)
+      (λ (o : Done). (o.answer ≡ Ok 0)
       ↔ ((0 < lanes_tried v.window v.height) × Clean strip 0 (lanes_tried v.window v.height)))
       (no.refreshed_no_exactly v strip c)
 
   -- it is 24 exactly where one of those bytes is an error
   pub refreshed_offset_exactly :
-      refreshed_checks v strip ≡ Verdict.Passes →
-      (r.answer ≡ Answer.Offset 0) ↔ ((i : ℕ) × (i < lanes_tried v.window v.height) × (1 < byte_at strip i))
+      refreshed_checks v strip ≡ Ok tt →
+      (r.answer ≡ Err (Failure.Offset 0)) ↔ ((i : ℕ) × (i < lanes_tried v.window v.height) × (1 < byte_at strip i))
   refreshed_offset_exactly c =
       refreshed_so
-      (λ (o : Done). (o.answer ≡ Answer.Offset 0)
+      (λ (o : Done). (o.answer ≡ Err (Failure.Offset 0))
       ↔ ((i : ℕ) × (i < lanes_tried v.window v.height) × (1 < byte_at strip i)))
       (no.refreshed_offset_exactly v strip c)
 
@@ -136,16 +136,16 @@ module _ (v : View) (strip : List ℕ) (lent : ℕ) (r : Done) (p : DetachPromis
 
   -- a detach not refused at entry that meets no storage error, with two rounds more than half its strip's bytes, ends retired
   pub detach_live :
-      entry_checks v strip ≡ Verdict.Passes → length strip / 2 + 2 ≤ lent → MetNoError r.answer → Retired r
+      entry_checks v strip ≡ Ok tt → length strip / 2 + 2 ≤ lent → MetNoError r.answer → Retired r
   detach_live c h = so (λ (o : Done). MetNoError o.answer → Retired o) (live.detach_live v strip lent c h)
 
   -- the customer's own: two rounds more than its strip has bytes
   pub detach_retires :
-      entry_checks v strip ≡ Verdict.Passes → length strip + 2 ≤ lent → MetNoError r.answer → Retired r
+      entry_checks v strip ≡ Ok tt → length strip + 2 ≤ lent → MetNoError r.answer → Retired r
   detach_retires c h = so (λ (o : Done). MetNoError o.answer → Retired o) (live.detach_retires v strip lent c h)
 
   -- nothing is asked of the answer where the strip has no error byte
-  pub no_errors_retire : entry_checks v strip ≡ Verdict.Passes → length strip / 2 + 2 ≤ lent → NoErrors strip → Retired r
+  pub no_errors_retire : entry_checks v strip ≡ Ok tt → length strip / 2 + 2 ≤ lent → NoErrors strip → Retired r
   no_errors_retire c h n = so Retired (live.no_errors_retire v strip lent c h n)
 
   -- however many rounds are lent, few are made
@@ -153,19 +153,19 @@ module _ (v : View) (strip : List ℕ) (lent : ℕ) (r : Done) (p : DetachPromis
   few_rounds = so (λ (o : Done). (told_of o.answer).value ≤ length strip / 2 + 2) (live.few_rounds v strip lent)
 
   -- 25 tells the rounds lent, which were too few
-  pub out_of_rounds : (n : ℕ) → r.answer ≡ Answer.Budget n → (n ≡ lent) × (lent < length strip / 2 + 2)
+  pub out_of_rounds : (n : ℕ) → r.answer ≡ Err (Failure.Budget n) → (n ≡ lent) × (lent < length strip / 2 + 2)
   out_of_rounds n =
-      so (λ (o : Done). o.answer ≡ Answer.Budget n → (n ≡ lent) × (lent < length strip / 2 + 2))
+      so (λ (o : Done). o.answer ≡ Err (Failure.Budget n) → (n ≡ lent) × (lent < length strip / 2 + 2))
       (live.out_of_rounds v strip lent n)
 
   -- 25 exactly where fewer rounds were lent than the detach needs
-  pub budget_exactly : ((n : ℕ) × (r.answer ≡ Answer.Budget n)) ↔ (lent < rounds_needed v strip)
+  pub budget_exactly : ((n : ℕ) × (r.answer ≡ Err (Failure.Budget n))) ↔ (lent < rounds_needed v strip)
   budget_exactly =
-      so (λ (o : Done). ((n : ℕ) × (o.answer ≡ Answer.Budget n)) ↔ (lent < rounds_needed v strip))
+      so (λ (o : Done). ((n : ℕ) × (o.answer ≡ Err (Failure.Budget n))) ↔ (lent < rounds_needed v strip))
       (live.budget_exactly v strip lent)
 
   -- each of its answers exactly in its place
-  pub detach_exactly : (a : Answer) → (r.answer ≡ a) ↔ DetachAnswers v strip lent a
+  pub detach_exactly : (a : Result ℕ Failure) → (r.answer ≡ a) ↔ DetachAnswers v strip lent a
   detach_exactly a = so (λ (o : Done). (o.answer ≡ a) ↔ DetachAnswers v strip lent a) (places.detach_exactly v strip lent a)
 
   -- it answers with 0, 20, 21, 23, 24 or 25
@@ -174,22 +174,23 @@ module _ (v : View) (strip : List ℕ) (lent : ℕ) (r : Done) (p : DetachPromis
 
   -- 24 exactly where an error byte was read
   pub offset_exactly :
-      entry_checks v strip ≡ Verdict.Passes →
-      ((n : ℕ) × (r.answer ≡ Answer.Offset n)) ↔ ((i : ℕ) × (i < (detach_work v strip lent).read) × (1 < byte_at strip i))
+      entry_checks v strip ≡ Ok tt →
+      ((n : ℕ) × (r.answer ≡ Err (Failure.Offset n)))
+      ↔ ((i : ℕ) × (i < (detach_work v strip lent).read) × (1 < byte_at strip i))
   offset_exactly c =
       so
-      (λ (o : Done). ((n : ℕ) × (o.answer ≡ Answer.Offset n))
+      (λ (o : Done). ((n : ℕ) × (o.answer ≡ Err (Failure.Offset n)))
       ↔ ((i : ℕ) × (i < (detach_work v strip lent).read) × (1 < byte_at strip i)))
       (exactly.offset_exactly v strip lent c)
 
   -- accepted exactly where no check applies, no byte that it reads is an error, and as many rounds are lent as it needs
   pub detach_accepted_exactly :
       (is_accepted r.answer ≡ true)
-      ↔ ((entry_checks v strip ≡ Verdict.Passes) × Clean strip 0 (detach_work v strip lent).read × (rounds_needed v strip ≤ lent))
+      ↔ ((entry_checks v strip ≡ Ok tt) × Clean strip 0 (detach_work v strip lent).read × (rounds_needed v strip ≤ lent))
   detach_accepted_exactly =
       so
       (λ (o : Done). (is_accepted o.answer ≡ true)
-      ↔ ((entry_checks v strip ≡ Verdict.Passes) × Clean strip 0 (detach_work v strip lent).read × (rounds_needed v strip ≤ lent)))
+      ↔ ((entry_checks v strip ≡ Ok tt) × Clean strip 0 (detach_work v strip lent).read × (rounds_needed v strip ≤ lent)))
       (live.detach_accepted_exactly v strip lent)
 
   -- where no refresh sets the window, it is handed back as it came
@@ -198,7 +199,7 @@ module _ (v : View) (strip : List ℕ) (lent : ℕ) (r : Done) (p : DetachPromis
 
   -- retired exactly where it was accepted
   pub retired_exactly :
-      entry_checks v strip ≡ Verdict.Passes → (r.view.retired ≡ 1) ↔ (is_accepted r.answer ≡ true)
+      entry_checks v strip ≡ Ok tt → (r.view.retired ≡ 1) ↔ (is_accepted r.answer ≡ true)
   retired_exactly c =
       so (λ (o : Done). (o.view.retired ≡ 1) ↔ (is_accepted o.answer ≡ true)) (exactly.retired_exactly v strip lent c)
 
@@ -246,7 +247,7 @@ more_rounds v strip n m r s p q h e =
 pub no_fewer :
     (few : ℕ → ℕ) →
     ((v : View) (strip : List ℕ) (r : Done) → DetachPromise v strip (few (length strip)) r →
-    entry_checks v strip ≡ Verdict.Passes → NoErrors strip → Retired r) →
+    entry_checks v strip ≡ Ok tt → NoErrors strip → Retired r) →
     (n : ℕ) → n ≤ most_bytes → n / 2 + 2 ≤ few n
 no_fewer few enough n h =
     slow.no_fewer few (λ v strip c e. enough v strip (detach_of v strip (few (length strip))) refl c e) n h

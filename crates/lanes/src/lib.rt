@@ -3,132 +3,63 @@
 // it is what the rules say. No call can write the contents, which readers may hold pinned.
 #![tactic(auto)]
 
-ghost use Rattle.std.specs.Prelude.{◌≡◌, cond};
-ghost use Rattle.lane_rules.specs.declared.Answer.{Answer};
-ghost use Rattle.lane_rules.specs.Answers.{told_of, is_accepted};
-ghost use Rattle.lane_rules.specs.Passes.{by_said};
-ghost use Rattle.lane_rules.specs.Calls.{view_with, passed, ended};
+ghost use Rattle.std.specs.Prelude.{◌≡◌};
+ghost use Rattle.lane_rules.specs.Calls.{cached_of, refreshed_of, detach_of};
 ghost use Rattle.lanes.specs.Promises.{CachedPromise, RefreshedPromise, DetachPromise};
 
 use lane_checks::{entry_checks, refreshed_checks};
-use lane_rules::{Answer, Done, Ended, Pass, Said, Told, Verdict, View};
+use lane_rounds::detach;
+use lane_rules::{Answer, Done, View};
+use passes::{cached_pass, refreshed_pass};
 
-// The number of an answer and its value.
-pub fn tell(answer: Answer) -> Told
-    ensures { result ≡ told_of answer }
+// The cached pass, unless a check refuses it: 1 for a yes and 0 for a no.
+fn cached_answer(mut strip: &[u8], view: &mut View) -> Answer
+    ensures { record { view = view.new; answer = result } ≡ cached_of view.old strip.now }
 {
-    match answer {
-        Answer::Accepted(value) => told(0, value),
-        Answer::Height => told(20, 0),
-        Answer::View => told(21, 0),
-        Answer::Window => told(22, 0),
-        Answer::Strip => told(23, 0),
-        Answer::Offset(rounds) => told(24, rounds),
-        Answer::Budget(rounds) => told(25, rounds),
-    }
+    entry_checks(*view, strip)?;
+    Ok(u32::from(cached_pass(&mut strip, view)?))
 }
 
-// The two numbers of an answer.
-fn told(answer: u32, value: u32) -> Told
-    ensures { result ≡ record { answer = answer; value = value } }
+// The refreshed pass, unless a check refuses it. One function for both passes is no plainer: it would be given the checks and the pass as
+// `impl Fn`, and promise what these two promise of `cached_of` and `refreshed_of` by what the functions given promise.
+fn refreshed_answer(mut strip: &[u8], view: &mut View) -> Answer
+    ensures { record { view = view.new; answer = result } ≡ refreshed_of view.old strip.now }
 {
-    Told { answer, value }
+    refreshed_checks(*view, strip)?;
+    Ok(u32::from(refreshed_pass(&mut strip, view)?))
 }
 
-// The view with other masks and another retired flag.
-fn with(view: View, attached: u32, window: u32, retired: u32) -> View
-    ensures { result ≡ view_with view attached window retired }
+// The passes and rounds of a detach, unless a check refuses it. The node is retired exactly where they end with a yes.
+fn detach_answer(strip: &[u8], rounds: u32, view: &mut View) -> Answer
+    ensures { record { view = view.new; answer = result } ≡ detach_of view.old strip.now rounds }
 {
-    View {
-        height: view.height,
-        guarded: view.guarded,
-        retired,
-        attached,
-        window,
-    }
-}
-
-// What a pass says, as an answer.
-fn answer_of(said: Said) -> Answer
-    ensures { result ≡ by_said said (Answer.Accepted 1) (Answer.Accepted 0) (Answer.Offset 0) }
-{
-    match said {
-        Said::Yes => Answer::Accepted(1),
-        Said::No => Answer::Accepted(0),
-        Said::Error => Answer::Offset(0),
-    }
-}
-
-// What a pass told and left.
-fn after_pass(view: View, pass: Pass) -> Done
-    ensures { result ≡ passed view pass }
-{
-    let said = pass.said;
-    let answer = answer_of(said);
-    Done {
-        view: with(view, pass.attached, view.window, view.retired),
-        answer,
-    }
-}
-
-// The retired flag after the answer of a detach: a yes sets it.
-fn flag_after(answer: Answer, flag: u32) -> u32
-    ensures { result ≡ cond (is_accepted answer) 1 flag }
-{
-    if tell(answer).answer == 0 {
-        return 1;
-    }
-    flag
-}
-
-// What a detach told and left: the node is retired exactly where it ended with a yes.
-fn after_detach(view: View, end: Ended) -> Done
-    ensures { result ≡ ended view end }
-{
-    let answer = end.answer;
-    let retired = flag_after(answer, view.retired);
-    Done {
-        view: with(view, end.attached, end.window, retired),
-        answer,
-    }
+    entry_checks(*view, strip)?;
+    let made = detach(strip, rounds, view)?;
+    view.retired = 1;
+    Ok(made)
 }
 
 // The cached pass: tries each lane of the window from the top lane down, and tells 1 where all are detached.
-pub fn cached_detach(view: View, contents: &[u32], strip: &[u8]) -> Done
+pub fn cached_detach(mut view: View, contents: &[u32], strip: &[u8]) -> Done
     ensures { CachedPromise view strip.now result }
 {
-    match entry_checks(view, strip) {
-        Verdict::Refused(answer) => Done { view, answer },
-        Verdict::Passes => after_pass(
-            view,
-            passes::cached_pass(strip, view.height, view.window, view.attached),
-        ),
-    }
+    let answer = cached_answer(strip, &mut view);
+    Done { view, answer }
 }
 
 // The refreshed pass: tries the lanes of the window, and tells 1 where there was none left to try.
-pub fn refreshed_detach(view: View, contents: &[u32], strip: &[u8]) -> Done
+pub fn refreshed_detach(mut view: View, contents: &[u32], strip: &[u8]) -> Done
     ensures { RefreshedPromise view strip.now result }
 {
-    match refreshed_checks(view, strip) {
-        Verdict::Refused(answer) => Done { view, answer },
-        Verdict::Passes => after_pass(
-            view,
-            passes::refreshed_pass(strip, view.height, view.window, view.attached, 0),
-        ),
-    }
+    let answer = refreshed_answer(strip, &mut view);
+    Done { view, answer }
 }
 
 // Detaches the node from all its lanes and retires it, in at most so many rounds. Two more than half the strip's bytes are always
 // enough, unless storage fails.
-pub fn detach_before_retire(view: View, contents: &[u32], strip: &[u8], rounds: u32) -> Done
+pub fn detach_before_retire(mut view: View, contents: &[u32], strip: &[u8], rounds: u32) -> Done
     ensures { DetachPromise view strip.now rounds result }
 {
-    match entry_checks(view, strip) {
-        Verdict::Refused(answer) => Done { view, answer },
-        Verdict::Passes => after_detach(
-            view,
-            lane_rounds::detach(strip, view.height, rounds, view.attached, view.window),
-        ),
-    }
+    let answer = detach_answer(strip, rounds, &mut view);
+    Done { view, answer }
 }

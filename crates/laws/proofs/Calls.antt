@@ -1,5 +1,6 @@
 -- The calls as wholes: an answer of 1 to 11 or 14 leaves table, head and record as before, for any head and table; and a table
 -- that is well formed stays so, whatever is answered.
+use Rattle.std.proofs.Common.{Result, Ok, Err, ℕ}
 use Prim.Native.Nat.{ℕ, ◌≤◌}
 use native.Mathlib.Omega.{arith}
 use mathlib.Core.Path.{◌≡◌, refl, sym, ap, ◌∙◌}
@@ -8,8 +9,7 @@ use mathlib.Core.Bool.{true, false}
 use mathlib.Core.Logic.{⊎_elim}
 use lib.ListN.{length}
 use Rattle.rules.specs.declared.Head.{Head}
-use Rattle.rules.specs.declared.Answer.{Answer}
-use Rattle.rules.specs.declared.Verdict.{Verdict}
+use Rattle.rules.specs.declared.Failure.{Failure}
 use Rattle.rules.specs.Table.{capacity, well_formed}
 use Rattle.rules.specs.Answers.{is_accepted, poisons, settled}
 use Rattle.rules.specs.Checks.{prepare_checks, rollback_checks, removal_checks, publish_checks}
@@ -28,12 +28,12 @@ use Rattle.laws.proofs.Outcomes.{shown_same, IsStopped, cause_poisons_not, going
 
 -- an outcome as before has its own answer
 own_answer :
-    (head : Head) (table list : List ℕ) (o : Outcome) (a : Answer) → o ≡ as_before head table list a →
+    (head : Head) (table list : List ℕ) (o : Outcome) (a : Result ℕ Failure) → o ≡ as_before head table list a →
     o ≡ as_before head table list o.answer
 own_answer head table list o a e = e ∙ ap (as_before head table list) (sym (ap (λ (x : Outcome). x.answer) e))
 
 -- an answer that is none of these
-not_unchanged : {A : Type 0} (a b : Answer) → is_unchanged a ≡ true → a ≡ b → is_unchanged b ≡ false → A
+not_unchanged : {A : Type 0} (a b : Result ℕ Failure) → is_unchanged a ≡ true → a ≡ b → is_unchanged b ≡ false → A
 not_unchanged a b h e k = absurd (clash (is_unchanged b) (rw e at h) k)
 
 module _ (head : Head) (table : List ℕ) (c : Call) where
@@ -44,8 +44,8 @@ module _ (head : Head) (table : List ℕ) (c : Call) where
   stopped_same k s h =
       ⊎_elim
       (λ b.
-      own_answer head table c.record_list (shown head table c.record_list (prepared head table c)) s.why
-      (shown_same head table c.record_list (prepared head table c) s.why k.formed b.answers (cause_poisons_not _ _ _ _ s.why s.cause) b.leaves))
+      own_answer head table c.record_list (shown head table c.record_list (prepared head table c)) (Err s.why)
+      (shown_same head table c.record_list (prepared head table c) (Err s.why) k.formed b.answers (cause_poisons_not _ _ _ _ s.why s.cause) b.leaves))
       (λ b. not_unchanged (prepared head table c).answer _ h b.answers refl)
       s.undo
 
@@ -53,7 +53,7 @@ module _ (head : Head) (table : List ℕ) (c : Call) where
   publish_as_before h = go (publish_of head table c) (published head table c) h
     where
       go : (o : Outcome) → Published head table c o → AsBefore head table c o
-      go o (Published.refused a e k) u = own_answer head table c.record_list o a k
+      go o (Published.refused a e k) u = own_answer head table c.record_list o (Err a) k
       go o (Published.taken e r l k) u = not_unchanged o.answer _ u (ap (λ (x : Outcome). x.answer) k) refl
       go o (Published.halted e r l k) u = not_unchanged o.answer _ u (ap (λ (x : Outcome). x.answer) k ∙ l.answers) refl
       go o (Published.stopped e s k) u = rw k (stopped_same (publish_clear head table c e) s (rw k at u))
@@ -62,7 +62,7 @@ module _ (head : Head) (table : List ℕ) (c : Call) where
   prepare_as_before h = go (prepare_of head table c) (prepares head table c) h
     where
       go : (o : Outcome) → Prepares head table c o → AsBefore head table c o
-      go o (Prepares.refused a e k) u = own_answer head table c.record_list o a k
+      go o (Prepares.refused a e k) u = own_answer head table c.record_list o (Err a) k
       go o (Prepares.ready e r k) u = not_unchanged o.answer _ u (ap (λ (x : Outcome). x.answer) k ∙ r.answers) refl
       go o (Prepares.stopped e s k) u = rw k (stopped_same (prepare_clear head table c e) s (rw k at u))
 
@@ -70,17 +70,17 @@ module _ (head : Head) (table : List ℕ) (c : Call) where
   rollback_as_before h = go (rollback_of head table c) (rolls_back head table c) h
     where
       go : (o : Outcome) → RollsBack head table c o → AsBefore head table c o
-      go o (RollsBack.refused a e k) u = own_answer head table c.record_list o a k
+      go o (RollsBack.refused a e k) u = own_answer head table c.record_list o (Err a) k
       go o (RollsBack.clean e r k) u =
-          not_unchanged o.answer _ u (ap (λ (x : Outcome). x.answer) k ∙ ap (λ v. settled v (Answer.Accepted 0)) r.verdict) refl
+          not_unchanged o.answer _ u (ap (λ (x : Outcome). x.answer) k ∙ ap (λ v. settled v (Ok 0)) r.verdict) refl
       go o (RollsBack.failed e r k) u =
-          not_unchanged o.answer _ u (ap (λ (x : Outcome). x.answer) k ∙ ap (λ v. settled v (Answer.Accepted 0)) r.verdict) refl
+          not_unchanged o.answer _ u (ap (λ (x : Outcome). x.answer) k ∙ ap (λ v. settled v (Ok 0)) r.verdict) refl
 
   pub removal_as_before : AsBefore head table c (removal_of head table c)
   removal_as_before h = go (removal_of head table c) (removes head table c) h
     where
       go : (o : Outcome) → Removes head table c o → AsBefore head table c o
-      go o (Removes.refused a e k) u = own_answer head table c.record_list o a k
+      go o (Removes.refused a e k) u = own_answer head table c.record_list o (Err a) k
       go o (Removes.cleared e r k) u = not_unchanged o.answer _ u (ap (λ (x : Outcome). x.answer) k ∙ r.answers) refl
       go o (Removes.halted e r k) u = not_unchanged o.answer _ u (ap (λ (x : Outcome). x.answer) k ∙ r.answers) refl
 
@@ -93,24 +93,24 @@ module _ (head : Head) (table : List ℕ) (c : Call) where
       prepare_sound head.bindings (capacity table) c.strip (going c) [] 0 (postings_before head table) k.bound (start_sound k.formed)
 
   prepare_shows :
-      prepare_checks head table c ≡ Verdict.Passes → Sound head.bindings (capacity table) (prepared head table c).postings
+      prepare_checks head table c ≡ Ok tt → Sound head.bindings (capacity table) (prepared head table c).postings
   prepare_shows e = prepared_sound (prepare_clear head table c e)
 
   rollback_shows :
-      rollback_checks head table c ≡ Verdict.Passes → Sound head.bindings (capacity table) (undid head table c).postings
+      rollback_checks head table c ≡ Ok tt → Sound head.bindings (capacity table) (undid head table c).postings
   rollback_shows e =
-      undo_sound head.bindings (capacity table) c.strip (recorded_back c) Verdict.Passes 0 (postings_before head table)
+      undo_sound head.bindings (capacity table) c.strip (recorded_back c) (Ok tt) 0 (postings_before head table)
       (start_sound (rollback_formed head table c e).0)
 
   removal_shows :
-      removal_checks head table c ≡ Verdict.Passes →
+      removal_checks head table c ≡ Ok tt →
       Sound head.bindings (capacity table) (removed_alone head table c).postings
   removal_shows e =
-      remove_sound c.strip (Answer.Accepted 0) head.bindings (capacity table) (leaving c) 0 (postings_before head table)
+      remove_sound c.strip (Ok 0) head.bindings (capacity table) (leaving c) 0 (postings_before head table)
       (start_sound (removal_formed head table c e).0)
 
   publish_shows :
-      publish_checks head table c ≡ Verdict.Passes →
+      publish_checks head table c ≡ Ok tt →
       Sound head.bindings (capacity table) (then_sources c.strip (leaving c) (prepared head table c)).postings
   publish_shows e =
       let s = prepared_sound (publish_clear head table c e) in
@@ -120,10 +120,10 @@ module _ (head : Head) (table : List ℕ) (c : Call) where
 
   -- so a well-formed table stays well formed
   unless_well_formed :
-      (v : Verdict) (list : List ℕ) (s : Stage) → (v ≡ Verdict.Passes → Sound head.bindings (capacity table) s.postings) →
+      (v : Result Unit Failure) (list : List ℕ) (s : Stage) → (v ≡ Ok tt → Sound head.bindings (capacity table) s.postings) →
       StaysWellFormed head table (unless_refused v (as_before head table c.record_list) (shown head table list s))
-  unless_well_formed (Verdict.Refused a) list s f h = h
-  unless_well_formed Verdict.Passes list s f h =
+  unless_well_formed (Err a) list s f h = h
+  unless_well_formed (Ok _) list s f h =
       let w = well_formed_parts head table h in
       well_formed_laid_out head (head_after head s.answer s.postings) table s.postings w (f refl) refl refl
       (by_cases (λ (n : ℕ). n ≤ 1) (poisons s.answer) (λ e. omega arith) (λ e. w.flag))
@@ -147,12 +147,12 @@ module _ (head : Head) (table : List ℕ) (c : Call) where
 
   -- and binding count and size stay at every answer, and the poison flag at all but 12 and 13
   unless_stable :
-      (v : Verdict) (list : List ℕ) (s : Stage) → Says is_refusal v →
-      (v ≡ Verdict.Passes → Sound head.bindings (capacity table) s.postings) →
+      (v : Result Unit Failure) (list : List ℕ) (s : Stage) → Says is_refusal v →
+      (v ≡ Ok tt → Sound head.bindings (capacity table) s.postings) →
       Stable head table (unless_refused v (as_before head table c.record_list) (shown head table list s))
-  unless_stable (Verdict.Refused a) list s h f =
-      record { bindings = refl; flag = rw (unchanged_poisons_not a (refusal_unchanged a (h a refl))); size = refl }
-  unless_stable Verdict.Passes list s h f =
+  unless_stable (Err a) list s h f =
+      record { bindings = refl; flag = rw (unchanged_poisons_not (Err a) (refusal_unchanged (Err a) (h a refl))); size = refl }
+  unless_stable (Ok _) list s h f =
       record {
         bindings = refl;
         flag = refl;
@@ -213,12 +213,12 @@ module _ (head : Head) (table : List ℕ) (c : Call) where
 
 pub count_poisoned :
     (head : Head) (table : List ℕ) → well_formed head table ≡ true → head.poisoned ≡ 1 → (binding key : ℕ) →
-    count_of head table binding key ≡ Answer.Poisoned
+    count_of head table binding key ≡ Err Failure.Poisoned
 unfolding count_of
 count_poisoned head table h k binding key = rw (count_opens head table _ (open_poisoned head table h k) binding)
 
 pub count_unformed :
     (head : Head) (table : List ℕ) → well_formed head table ≡ false → (binding key : ℕ) →
-    count_of head table binding key ≡ Answer.Table
+    count_of head table binding key ≡ Err Failure.Table
 unfolding count_of
 count_unformed head table h binding key = rw (count_opens head table _ (open_unformed head table h) binding)

@@ -1,4 +1,5 @@
 -- What the checks say where they pass, and that they refuse with nothing but 1 to 9 and 14.
+use Rattle.std.proofs.Common.{Option, Some, None, Result, Ok, Err, ℕ}
 use Prim.Native.Nat.{ℕ, ◌+◌, ◌≤◌}
 use native.Mathlib.Omega.{arith}
 use mathlib.Core.Path.{◌≡◌, refl, sym, ◌∙◌}
@@ -10,12 +11,10 @@ use lib.Dec.{eqb, ltb, leb}
 use borrow.Author.Tests.{eq-eqb, ne_eqb, eqb-true, leb-true, le-leb, not-true}
 use Rattle.strips.specs.Strips.{proper_strip}
 use Rattle.rules.specs.declared.Posting.{Posting}
-use Rattle.rules.specs.declared.Key.{Key}
 use Rattle.rules.specs.declared.Change.{Change}
 use Rattle.rules.specs.declared.Guard.{Guard}
 use Rattle.rules.specs.declared.Head.{Head}
-use Rattle.rules.specs.declared.Answer.{Answer}
-use Rattle.rules.specs.declared.Verdict.{Verdict}
+use Rattle.rules.specs.declared.Failure.{Failure}
 use Rattle.rules.specs.Limits.{most_changes}
 use Rattle.rules.specs.Postings.{every, same, present, inserted, binding_below}
 use Rattle.rules.specs.Table.{postings, well_formed}
@@ -29,59 +28,59 @@ use Rattle.laws.proofs.Lists.{present_inserted}
 use Rattle.laws.proofs.Prepare.{Fresh}
 
 -- verdicts
-pub must_holds : (b : Bool) (a : Answer) → must b a ≡ Verdict.Passes → b ≡ true
+pub must_holds : (b : Bool) (a : Failure) → must b a ≡ Ok tt → b ≡ true
 must_holds true a h = refl
 must_holds false a h = impossible (cc)
 
-pub else_first : (v w : Verdict) → or_else v w ≡ Verdict.Passes → v ≡ Verdict.Passes
-else_first Verdict.Passes w h = refl
-else_first (Verdict.Refused a) w h = h
+pub else_first : (v w : Result Unit Failure) → or_else v w ≡ Ok tt → v ≡ Ok tt
+else_first (Ok _) w h = refl
+else_first (Err a) w h = h
 
-pub else_second : (v w : Verdict) → or_else v w ≡ Verdict.Passes → w ≡ Verdict.Passes
-else_second Verdict.Passes w h = h
-else_second (Verdict.Refused a) w h = impossible (cc)
+pub else_second : (v w : Result Unit Failure) → or_else v w ≡ Ok tt → w ≡ Ok tt
+else_second (Ok _) w h = h
+else_second (Err a) w h = impossible (cc)
 
 -- a property of each verdict of a list
-abbrev pub Each : (Verdict → Type 0) → List Verdict → Type 0
+abbrev pub Each : (Result Unit Failure → Type 0) → List (Result Unit Failure) → Type 0
 Each P [] = Unit {0}
 Each P (v ∷ vs) = P v × Each P vs
 
 -- a list of verdicts passes exactly where each of them does
-pub passed : (vs : List Verdict) → first_refusal vs ≡ Verdict.Passes → Each (λ v. v ≡ Verdict.Passes) vs
+pub passed : (vs : List (Result Unit Failure)) → first_refusal vs ≡ Ok tt → Each (λ v. v ≡ Ok tt) vs
 unfolding first_refusal
 passed [] h = tt
 passed (v ∷ vs) h = (else_first v (first_refusal vs) h, passed vs (else_second v (first_refusal vs) h))
 
-pub all_pass : (vs : List Verdict) → Each (λ v. v ≡ Verdict.Passes) vs → first_refusal vs ≡ Verdict.Passes
+pub all_pass : (vs : List (Result Unit Failure)) → Each (λ v. v ≡ Ok tt) vs → first_refusal vs ≡ Ok tt
 unfolding first_refusal
 all_pass [] h = refl
 all_pass (v ∷ vs) h = rw (h.0, all_pass vs h.1)
 
 -- a refusal that stands first is the whole list's
-pub first_refuses : (v : Verdict) (vs : List Verdict) (a : Answer) → v ≡ Verdict.Refused a → first_refusal (v ∷ vs) ≡ Verdict.Refused a
+pub first_refuses : (v : Result Unit Failure) (vs : List (Result Unit Failure)) (a : Failure) → v ≡ Err a → first_refusal (v ∷ vs) ≡ Err a
 unfolding first_refusal
 first_refuses v vs a h = rw h
 
 -- whatever the verdict refuses with has the property
-abbrev pub Says : (Answer → Bool) → Verdict → Type 0
-Says P v = (a : Answer) → v ≡ Verdict.Refused a → P a ≡ true
+abbrev pub Says : (Result ℕ Failure → Bool) → Result Unit Failure → Type 0
+Says P v = (a : Failure) → v ≡ Err a → P (Err a) ≡ true
 
-module _ (P : Answer → Bool) where
-  says_must : (b : Bool) (a : Answer) → P a ≡ true → Says P (must b a)
+module _ (P : Result ℕ Failure → Bool) where
+  says_must : (b : Bool) (a : Failure) → P (Err a) ≡ true → Says P (must b a)
   says_must true a h x e = impossible (cc)
   says_must false a h x e = let k : x ≡ a = cc in rw k h
 
-  says_else : (v w : Verdict) → Says P v → Says P w → Says P (or_else v w)
-  says_else Verdict.Passes w f g = g
-  says_else (Verdict.Refused a) w f g = f
+  says_else : (v w : Result Unit Failure) → Says P v → Says P w → Says P (or_else v w)
+  says_else (Ok _) w f g = g
+  says_else (Err a) w f g = f
 
-  says_first : (vs : List Verdict) → Each (Says P) vs → Says P (first_refusal vs)
+  says_first : (vs : List (Result Unit Failure)) → Each (Says P) vs → Says P (first_refusal vs)
   unfolding first_refusal
   says_first [] h = λ x e. impossible (cc)
   says_first (v ∷ vs) h = says_else v (first_refusal vs) h.0 (says_first vs h.1)
 
   says_failing :
-      {A : Type 0} (test : A → Bool) (answer : ℕ → A → Answer) (i : ℕ) (xs : List A) → ((k : ℕ) (x : A) → P (answer k x) ≡ true) →
+      {A : Type 0} (test : A → Bool) (answer : ℕ → A → Failure) (i : ℕ) (xs : List A) → ((k : ℕ) (x : A) → P (Err (answer k x)) ≡ true) →
       Says P (first_failing test answer i xs)
   unfolding first_failing
   says_failing test answer i [] h = λ x e. impossible (cc)
@@ -90,20 +89,20 @@ module _ (P : Answer → Bool) where
       (says_failing test answer (i + 1) xs h)
 
   record_from_says :
-      (place : ℕ) (cs : List Change) (earlier ns : List ℕ) → ((i : ℕ) → P (Answer.Record i) ≡ true) →
+      (place : ℕ) (cs : List Change) (earlier ns : List ℕ) → ((i : ℕ) → P (Err (Failure.Record i)) ≡ true) →
       Says P (record_from place cs earlier ns)
   unfolding record_from
   record_from_says place cs earlier [] h = λ x e. impossible (cc)
   record_from_says place cs earlier (n ∷ ns) h =
-      says_else (must (recordable cs n && not (among n earlier)) (Answer.Record place)) (record_from (place + 1) cs (n ∷ earlier) ns)
-      (says_must (recordable cs n && not (among n earlier)) (Answer.Record place) (h place))
+      says_else (must (recordable cs n && not (among n earlier)) (Failure.Record place)) (record_from (place + 1) cs (n ∷ earlier) ns)
+      (says_must (recordable cs n && not (among n earlier)) (Failure.Record place) (h place))
       (record_from_says (place + 1) cs (n ∷ earlier) ns h)
 
-  equal_says : (d : Numbered) (es : List Numbered) → ((i j : ℕ) → P (Answer.Twice i j) ≡ true) → Says P (first_equal d es)
+  equal_says : (d : Numbered) (es : List Numbered) → ((i j : ℕ) → P (Err (Failure.Twice i j)) ≡ true) → Says P (first_equal d es)
   unfolding first_equal
   equal_says d es h = says_failing _ _ 0 es λ k x. h _ _
 
-  twice_from_says : (earlier ds : List Numbered) → ((i j : ℕ) → P (Answer.Twice i j) ≡ true) → Says P (twice_from earlier ds)
+  twice_from_says : (earlier ds : List Numbered) → ((i j : ℕ) → P (Err (Failure.Twice i j)) ≡ true) → Says P (twice_from earlier ds)
   unfolding twice_from
   twice_from_says earlier [] h = λ x e. impossible (cc)
   twice_from_says earlier (d ∷ ds) h =
@@ -111,76 +110,76 @@ module _ (P : Answer → Bool) where
 
   -- each group says what its checks say
   pub opening_says :
-      (head : Head) (table : List ℕ) → P Answer.Table ≡ true → P Answer.Poisoned ≡ true → Says P (opening_checks head table)
+      (head : Head) (table : List ℕ) → P (Err Failure.Table) ≡ true → P (Err Failure.Poisoned) ≡ true → Says P (opening_checks head table)
   unfolding opening_checks table_check poison_check
   opening_says head table h1 h2 =
       says_first _ (says_must (well_formed head table) _ h1, (says_must (eqb head.poisoned 0) _ h2, tt))
 
   pub lent_says :
-      (cs : List ℕ) (paired : Bool) (strip : List ℕ) → P Answer.List ≡ true → P Answer.Strip ≡ true → Says P (lent_checks cs paired strip)
+      (cs : List ℕ) (paired : Bool) (strip : List ℕ) → P (Err Failure.List) ≡ true → P (Err Failure.Strip) ≡ true → Says P (lent_checks cs paired strip)
   unfolding lent_checks list_check strip_check
   lent_says cs paired strip h3 h4 =
       says_first _ (says_must (proper_lists cs paired) _ h3, (says_must (proper_strip strip) _ h4, tt))
 
-  room_says : (cs : List Change) (list : List ℕ) → P Answer.Room ≡ true → Says P (room_check cs list)
+  room_says : (cs : List Change) (list : List ℕ) → P (Err Failure.Room) ≡ true → Says P (room_check cs list)
   unfolding room_check
   room_says cs list h5 = says_must (leb (length cs) (length list)) _ h5
 
   guard_says :
-      (bindings : ℕ) (gs : List Guard) (cs : List Change) → ((i : ℕ) → P (Answer.Guard i) ≡ true) → Says P (guard_check bindings gs cs)
+      (bindings : ℕ) (gs : List Guard) (cs : List Change) → ((i : ℕ) → P (Err (Failure.Guard i)) ≡ true) → Says P (guard_check bindings gs cs)
   unfolding guard_check
   guard_says bindings gs cs h6 = says_failing _ _ 0 cs λ k x. h6 k
 
   arriving_says :
-      (ps : List Posting) (cs : List Change) → ((i j : ℕ) → P (Answer.Twice i j) ≡ true) → ((i : ℕ) → P (Answer.Present i) ≡ true) →
+      (ps : List Posting) (cs : List Change) → ((i j : ℕ) → P (Err (Failure.Twice i j)) ≡ true) → ((i : ℕ) → P (Err (Failure.Present i)) ≡ true) →
       Says P (arriving_checks ps cs)
   unfolding arriving_checks twice_check present_check
   arriving_says ps cs h7 h8 =
       says_first _ (twice_from_says [] (destinations cs) h7, (says_failing _ _ 0 (destinations cs) (λ k x. h8 _), tt))
 
-  leaving_says : (cs : List Change) → ((i : ℕ) → P (Answer.Overlap i) ≡ true) → Says P (leaving_checks cs)
+  leaving_says : (cs : List Change) → ((i : ℕ) → P (Err (Failure.Overlap i)) ≡ true) → Says P (leaving_checks cs)
   unfolding leaving_checks overlap_check
   leaving_says cs h9 = says_first _ (says_failing _ _ 0 (sources cs) (λ k x. h9 _), tt)
 
-  record_says : (cs : List Change) (list : List ℕ) → ((i : ℕ) → P (Answer.Record i) ≡ true) → Says P (record_check cs list)
+  record_says : (cs : List Change) (list : List ℕ) → ((i : ℕ) → P (Err (Failure.Record i)) ≡ true) → Says P (record_check cs list)
   unfolding record_check
   record_says cs list h14 = record_from_says 0 cs [] list h14
 
   order_says :
-      (head : Head) (table cs : List ℕ) (paired : Bool) (strip list : List ℕ) → P Answer.Table ≡ true → P Answer.Poisoned ≡ true →
-      P Answer.List ≡ true → P Answer.Strip ≡ true → P Answer.Room ≡ true → Says P (order_checks head table cs paired strip list)
+      (head : Head) (table cs : List ℕ) (paired : Bool) (strip list : List ℕ) → P (Err Failure.Table) ≡ true → P (Err Failure.Poisoned) ≡ true →
+      P (Err Failure.List) ≡ true → P (Err Failure.Strip) ≡ true → P (Err Failure.Room) ≡ true → Says P (order_checks head table cs paired strip list)
   unfolding order_checks
   order_says head table cs paired strip list h1 h2 h3 h4 h5 =
       says_first _ (opening_says head table h1 h2, (lent_says cs paired strip h3 h4, (room_says (changes cs) list h5, tt)))
 
   -- and so does each call
-  module _ (head : Head) (table : List ℕ) (c : Call) (h1 : P Answer.Table ≡ true) (h2 : P Answer.Poisoned ≡ true) (h3 : P Answer.List ≡ true) (h4 : P Answer.Strip ≡ true) where
+  module _ (head : Head) (table : List ℕ) (c : Call) (h1 : P (Err Failure.Table) ≡ true) (h2 : P (Err Failure.Poisoned) ≡ true) (h3 : P (Err Failure.List) ≡ true) (h4 : P (Err Failure.Strip) ≡ true) where
     pub prepare_says :
-        P Answer.Room ≡ true → ((i : ℕ) → P (Answer.Guard i) ≡ true) → ((i j : ℕ) → P (Answer.Twice i j) ≡ true) →
-        ((i : ℕ) → P (Answer.Present i) ≡ true) → Says P (prepare_checks head table c)
+        P (Err Failure.Room) ≡ true → ((i : ℕ) → P (Err (Failure.Guard i)) ≡ true) → ((i j : ℕ) → P (Err (Failure.Twice i j)) ≡ true) →
+        ((i : ℕ) → P (Err (Failure.Present i)) ≡ true) → Says P (prepare_checks head table c)
     unfolding prepare_checks
     prepare_says h5 h6 h7 h8 =
         says_first _ (opening_says head table h1 h2, (lent_says _ _ _ h3 h4, (room_says _ _ h5, (guard_says _ _ _ h6, (arriving_says _ _ h7 h8, tt)))))
 
     pub rollback_says :
-        ((i : ℕ) → P (Answer.Guard i) ≡ true) → ((i : ℕ) → P (Answer.Record i) ≡ true) → Says P (rollback_checks head table c)
+        ((i : ℕ) → P (Err (Failure.Guard i)) ≡ true) → ((i : ℕ) → P (Err (Failure.Record i)) ≡ true) → Says P (rollback_checks head table c)
     unfolding rollback_checks
     rollback_says h6 h14 =
         says_first _ (opening_says head table h1 h2, (lent_says _ _ _ h3 h4, (guard_says _ _ _ h6, (record_says _ _ h14, tt))))
 
-    pub removal_says : ((i : ℕ) → P (Answer.Guard i) ≡ true) → Says P (removal_checks head table c)
+    pub removal_says : ((i : ℕ) → P (Err (Failure.Guard i)) ≡ true) → Says P (removal_checks head table c)
     unfolding removal_checks
     removal_says h6 = says_first _ (opening_says head table h1 h2, (lent_says _ _ _ h3 h4, (guard_says _ _ _ h6, tt)))
 
     pub publish_says :
-        P Answer.Room ≡ true → ((i : ℕ) → P (Answer.Guard i) ≡ true) → ((i j : ℕ) → P (Answer.Twice i j) ≡ true) →
-        ((i : ℕ) → P (Answer.Present i) ≡ true) → ((i : ℕ) → P (Answer.Overlap i) ≡ true) → Says P (publish_checks head table c)
+        P (Err Failure.Room) ≡ true → ((i : ℕ) → P (Err (Failure.Guard i)) ≡ true) → ((i j : ℕ) → P (Err (Failure.Twice i j)) ≡ true) →
+        ((i : ℕ) → P (Err (Failure.Present i)) ≡ true) → ((i : ℕ) → P (Err (Failure.Overlap i)) ≡ true) → Says P (publish_checks head table c)
     unfolding publish_checks publish_beside
     publish_says h5 h6 h7 h8 h9 =
         says_first _ (order_says head table _ _ _ _ h1 h2 h3 h4 h5, (guard_says _ _ _ h6, (arriving_says _ _ h7 h8, (leaving_says _ h9, tt))))
 
   pub count_says :
-      (head : Head) (table : List ℕ) (binding : ℕ) → P Answer.Table ≡ true → P Answer.Poisoned ≡ true → P (Answer.Guard 0) ≡ true →
+      (head : Head) (table : List ℕ) (binding : ℕ) → P (Err Failure.Table) ≡ true → P (Err Failure.Poisoned) ≡ true → P (Err (Failure.Guard 0)) ≡ true →
       Says P (count_checks head table binding)
   unfolding count_checks
   count_says head table binding h1 h2 h6 =
@@ -202,15 +201,15 @@ module _ (head : Head) (table : List ℕ) (c : Call) where
 
 -- where no element fails, the first passes and so do the rest
 pub failing_first :
-    {A : Type 0} (test : A → Bool) (answer : ℕ → A → Answer) (i : ℕ) (x : A) (xs : List A) →
-    first_failing test answer i (x ∷ xs) ≡ Verdict.Passes → test x ≡ true
+    {A : Type 0} (test : A → Bool) (answer : ℕ → A → Failure) (i : ℕ) (x : A) (xs : List A) →
+    first_failing test answer i (x ∷ xs) ≡ Ok tt → test x ≡ true
 unfolding first_failing
 failing_first test answer i x xs h =
     must_holds (test x) (answer i x) (else_first (must (test x) (answer i x)) (first_failing test answer (i + 1) xs) h)
 
 pub failing_rest :
-    {A : Type 0} (test : A → Bool) (answer : ℕ → A → Answer) (i : ℕ) (x : A) (xs : List A) →
-    first_failing test answer i (x ∷ xs) ≡ Verdict.Passes → first_failing test answer (i + 1) xs ≡ Verdict.Passes
+    {A : Type 0} (test : A → Bool) (answer : ℕ → A → Failure) (i : ℕ) (x : A) (xs : List A) →
+    first_failing test answer i (x ∷ xs) ≡ Ok tt → first_failing test answer (i + 1) xs ≡ Ok tt
 unfolding first_failing
 failing_rest test answer i x xs h = else_second (must (test x) (answer i x)) (first_failing test answer (i + 1) xs) h
 
@@ -226,13 +225,13 @@ guarded_below n gs i c ds h k = go (destination_of c)
         and_elim_left (ltb c.binding n) (key_held c.binding c.before gs)
         (and_elim_left (ltb c.binding n && key_held c.binding c.before gs) (key_held c.binding c.after gs) h)
 
-    go : (key : Key) → every (binding_below n) (postings_of (named i c key ds)) ≡ true
-    go Key.Missing = k
-    go (Key.Named key) = and_intro below k
+    go : (key : Option ℕ) → every (binding_below n) (postings_of (named i c key ds)) ≡ true
+    go None = k
+    go (Some key) = and_intro below k
 
 destinations_below :
-    (n : ℕ) (gs : List Guard) (answer : ℕ → Change → Answer) (i j : ℕ) (cs : List Change) →
-    first_failing (guarded n gs) answer j cs ≡ Verdict.Passes → every (binding_below n) (postings_of (destinations_from i cs)) ≡ true
+    (n : ℕ) (gs : List Guard) (answer : ℕ → Change → Failure) (i j : ℕ) (cs : List Change) →
+    first_failing (guarded n gs) answer j cs ≡ Ok tt → every (binding_below n) (postings_of (destinations_from i cs)) ≡ true
 unfolding destinations_from every
 destinations_below n gs answer i j [] h = refl
 destinations_below n gs answer i j (c ∷ cs) h =
@@ -241,8 +240,8 @@ destinations_below n gs answer i j (c ∷ cs) h =
 
 -- destinations that are neither in the table nor twice in the list are new, each when its turn comes
 not_among :
-    (d : Numbered) (answer : ℕ → Numbered → Answer) (i : ℕ) (es : List Numbered) →
-    first_failing (λ (e : Numbered). not (same e.posting d.posting)) answer i es ≡ Verdict.Passes →
+    (d : Numbered) (answer : ℕ → Numbered → Failure) (i : ℕ) (es : List Numbered) →
+    first_failing (λ (e : Numbered). not (same e.posting d.posting)) answer i es ≡ Ok tt →
     present d.posting (postings_of es) ≡ false
 unfolding present
 not_among d answer i [] h = refl
@@ -251,7 +250,7 @@ not_among d answer i (e ∷ es) h =
     (same_turned d.posting e.posting ∙ not-true (same e.posting d.posting) (failing_first _ answer i e es h))
     (not_among d answer (i + 1) es (failing_rest _ answer i e es h))
 
-not_earlier : (d : Numbered) (es : List Numbered) → first_equal d es ≡ Verdict.Passes → present d.posting (postings_of es) ≡ false
+not_earlier : (d : Numbered) (es : List Numbered) → first_equal d es ≡ Ok tt → present d.posting (postings_of es) ≡ false
 unfolding first_equal
 not_earlier d es h = not_among d _ 0 es h
 
@@ -263,9 +262,9 @@ present_last p [] d = refl
 present_last p (e ∷ es) d = rw (present_last p es d) (or_swap (same p e.posting) (same p d.posting) (present p (postings_of es)))
 
 fresh_from :
-    (ps l : List Posting) (earlier ds : List Numbered) (answer : ℕ → Numbered → Answer) (i : ℕ) →
-    ((p : Posting) → present p l ≡ (present p (postings_of earlier) || present p ps)) → twice_from earlier ds ≡ Verdict.Passes →
-    first_failing (λ (d : Numbered). not (present d.posting ps)) answer i ds ≡ Verdict.Passes → Fresh ds l
+    (ps l : List Posting) (earlier ds : List Numbered) (answer : ℕ → Numbered → Failure) (i : ℕ) →
+    ((p : Posting) → present p l ≡ (present p (postings_of earlier) || present p ps)) → twice_from earlier ds ≡ Ok tt →
+    first_failing (λ (d : Numbered). not (present d.posting ps)) answer i ds ≡ Ok tt → Fresh ds l
 unfolding twice_from
 fresh_from ps l earlier [] answer i f h k = tt
 fresh_from ps l earlier (d ∷ ds) answer i f h k = (
@@ -283,60 +282,60 @@ fresh_from ps l earlier (d ∷ ds) answer i f h k = (
 
 -- what the groups say where they pass
 module _ (head : Head) (table : List ℕ) where
-  pub opened : opening_checks head table ≡ Verdict.Passes → (well_formed head table ≡ true) × (head.poisoned ≡ 0)
+  pub opened : opening_checks head table ≡ Ok tt → (well_formed head table ≡ true) × (head.poisoned ≡ 0)
   unfolding opening_checks table_check poison_check
   opened h =
       let p = passed _ h in (
-        must_holds (well_formed head table) Answer.Table p.0,
-        eqb-true head.poisoned 0 (must_holds (eqb head.poisoned 0) Answer.Poisoned p.1.0),
+        must_holds (well_formed head table) Failure.Table p.0,
+        eqb-true head.poisoned 0 (must_holds (eqb head.poisoned 0) Failure.Poisoned p.1.0),
       )
 
-  pub open_passes : well_formed head table ≡ true → head.poisoned ≡ 0 → opening_checks head table ≡ Verdict.Passes
+  pub open_passes : well_formed head table ≡ true → head.poisoned ≡ 0 → opening_checks head table ≡ Ok tt
   unfolding opening_checks table_check poison_check first_refusal
   open_passes f k = rw (f, eq-eqb head.poisoned 0 k)
 
   -- a table that is not well formed is refused with 1, whatever its flag is
-  pub open_unformed : well_formed head table ≡ false → opening_checks head table ≡ Verdict.Refused Answer.Table
+  pub open_unformed : well_formed head table ≡ false → opening_checks head table ≡ Err Failure.Table
   unfolding opening_checks table_check first_refusal
   open_unformed f = rw f
 
   -- a poisoned table is refused with 2
-  pub open_poisoned : well_formed head table ≡ true → head.poisoned ≡ 1 → opening_checks head table ≡ Verdict.Refused Answer.Poisoned
+  pub open_poisoned : well_formed head table ≡ true → head.poisoned ≡ 1 → opening_checks head table ≡ Err Failure.Poisoned
   unfolding opening_checks table_check poison_check first_refusal
   open_poisoned f k =
       let n : eqb head.poisoned 0 ≡ false = ne_eqb head.poisoned 0 (λ e. omega arith) in
       rw (f, n)
 
 -- every call begins with 1 and 2: what these refuse, it refuses
-module _ (head : Head) (table : List ℕ) (a : Answer) (h : opening_checks head table ≡ Verdict.Refused a) where
-  pub prepare_opens : (c : Call) → prepare_checks head table c ≡ Verdict.Refused a
+module _ (head : Head) (table : List ℕ) (a : Failure) (h : opening_checks head table ≡ Err a) where
+  pub prepare_opens : (c : Call) → prepare_checks head table c ≡ Err a
   unfolding prepare_checks
   prepare_opens c = first_refuses _ _ a h
 
-  pub rollback_opens : (c : Call) → rollback_checks head table c ≡ Verdict.Refused a
+  pub rollback_opens : (c : Call) → rollback_checks head table c ≡ Err a
   unfolding rollback_checks
   rollback_opens c = first_refuses _ _ a h
 
-  pub removal_opens : (c : Call) → removal_checks head table c ≡ Verdict.Refused a
+  pub removal_opens : (c : Call) → removal_checks head table c ≡ Err a
   unfolding removal_checks
   removal_opens c = first_refuses _ _ a h
 
-  pub publish_opens : (c : Call) → publish_checks head table c ≡ Verdict.Refused a
+  pub publish_opens : (c : Call) → publish_checks head table c ≡ Err a
   unfolding publish_checks publish_beside order_checks
   publish_opens c = first_refuses _ _ a (first_refuses _ _ a h)
 
-  pub count_opens : (binding : ℕ) → count_checks head table binding ≡ Verdict.Refused a
+  pub count_opens : (binding : ℕ) → count_checks head table binding ≡ Err a
   unfolding count_checks
   count_opens binding = first_refuses _ _ a h
 
 module _ (cs : List ℕ) (paired : Bool) (strip : List ℕ) where
-  pub lent_proper : lent_checks cs paired strip ≡ Verdict.Passes → (proper_lists cs paired ≡ true) × (proper_strip strip ≡ true)
+  pub lent_proper : lent_checks cs paired strip ≡ Ok tt → (proper_lists cs paired ≡ true) × (proper_strip strip ≡ true)
   unfolding lent_checks list_check strip_check
   lent_proper h =
       let p = passed _ h in
-      (must_holds (proper_lists cs paired) Answer.List p.0, must_holds (proper_strip strip) Answer.Strip p.1.0)
+      (must_holds (proper_lists cs paired) Failure.List p.0, must_holds (proper_strip strip) Failure.Strip p.1.0)
 
-  pub lent_passes : proper_lists cs paired ≡ true → proper_strip strip ≡ true → lent_checks cs paired strip ≡ Verdict.Passes
+  pub lent_passes : proper_lists cs paired ≡ true → proper_strip strip ≡ true → lent_checks cs paired strip ≡ Ok tt
   unfolding lent_checks list_check strip_check first_refusal
   lent_passes l k = rw (l, k)
 
@@ -349,35 +348,35 @@ proper_few cs paired h =
     leb-true (length (changes cs)) most_changes (and_elim_right p m (and_elim_left (p && m) paired h))
 
 module _ (cs : List Change) (list : List ℕ) where
-  pub room_places : room_check cs list ≡ Verdict.Passes → length cs ≤ length list
+  pub room_places : room_check cs list ≡ Ok tt → length cs ≤ length list
   unfolding room_check
-  room_places h = leb-true (length cs) (length list) (must_holds (leb (length cs) (length list)) Answer.Room h)
+  room_places h = leb-true (length cs) (length list) (must_holds (leb (length cs) (length list)) Failure.Room h)
 
-  pub room_passes : length cs ≤ length list → room_check cs list ≡ Verdict.Passes
+  pub room_passes : length cs ≤ length list → room_check cs list ≡ Ok tt
   unfolding room_check
   room_passes h = rw (le-leb (length cs) (length list) h)
 
 pub arriving_parts :
-    (ps : List Posting) (cs : List Change) → arriving_checks ps cs ≡ Verdict.Passes →
-    (twice_check cs ≡ Verdict.Passes) × (present_check ps cs ≡ Verdict.Passes)
+    (ps : List Posting) (cs : List Change) → arriving_checks ps cs ≡ Ok tt →
+    (twice_check cs ≡ Ok tt) × (present_check ps cs ≡ Ok tt)
 unfolding arriving_checks
 arriving_parts ps cs h = let p = passed _ h in (p.0, p.1.0)
 
 -- the groups of an order that passed
 pub record Ordered (head : Head) (table cs : List ℕ) (paired : Bool) (strip list : List ℕ) : Type 0 where
-  pub opening : opening_checks head table ≡ Verdict.Passes
-  pub lent : lent_checks cs paired strip ≡ Verdict.Passes
-  pub room : room_check (changes cs) list ≡ Verdict.Passes
+  pub opening : opening_checks head table ≡ Ok tt
+  pub lent : lent_checks cs paired strip ≡ Ok tt
+  pub room : room_check (changes cs) list ≡ Ok tt
 
 -- 1 to 5 pass with another strip that is proper and another record list that has room
-module _ (head : Head) (table cs : List ℕ) (paired : Bool) (strip list : List ℕ) (h : order_checks head table cs paired strip list ≡ Verdict.Passes) where
+module _ (head : Head) (table cs : List ℕ) (paired : Bool) (strip list : List ℕ) (h : order_checks head table cs paired strip list ≡ Ok tt) where
   pub order_passed : Ordered head table cs paired strip list
   unfolding order_checks
   order_passed = let p = passed _ h in record { opening = p.0; lent = p.1.0; room = p.1.1.0 }
 
   pub order_relent :
       (strip' list' : List ℕ) → proper_strip strip' ≡ true → length (changes cs) ≤ length list' →
-      order_checks head table cs paired strip' list' ≡ Verdict.Passes
+      order_checks head table cs paired strip' list' ≡ Ok tt
   unfolding order_checks
   order_relent strip' list' s r =
       let o = order_passed in
@@ -385,20 +384,20 @@ module _ (head : Head) (table cs : List ℕ) (paired : Bool) (strip list : List 
 
 -- the groups of a call that passed, as far as prepare and publish have both
 pub record Passed (head : Head) (table : List ℕ) (c : Call) : Type 0 where
-  pub opening : opening_checks head table ≡ Verdict.Passes
-  pub lent : lent_of c ≡ Verdict.Passes
-  pub room : room_check (changes_of c) c.record_list ≡ Verdict.Passes
-  pub guarding : guarding_of head c ≡ Verdict.Passes
-  pub arriving : arriving_checks (postings head.used table) (changes_of c) ≡ Verdict.Passes
+  pub opening : opening_checks head table ≡ Ok tt
+  pub lent : lent_of c ≡ Ok tt
+  pub room : room_check (changes_of c) c.record_list ≡ Ok tt
+  pub guarding : guarding_of head c ≡ Ok tt
+  pub arriving : arriving_checks (postings head.used table) (changes_of c) ≡ Ok tt
 
 module _ (head : Head) (table : List ℕ) (c : Call) where
-  pub prepare_passed : prepare_checks head table c ≡ Verdict.Passes → Passed head table c
+  pub prepare_passed : prepare_checks head table c ≡ Ok tt → Passed head table c
   unfolding prepare_checks
   prepare_passed h =
       let p = passed _ h in
       record { opening = p.0; lent = p.1.0; room = p.1.1.0; guarding = p.1.1.1.0; arriving = p.1.1.1.1.0 }
 
-  pub publish_passed : publish_checks head table c ≡ Verdict.Passes → Passed head table c
+  pub publish_passed : publish_checks head table c ≡ Ok tt → Passed head table c
   unfolding publish_checks publish_beside
   publish_passed h =
       let p = passed _ h in
@@ -406,15 +405,15 @@ module _ (head : Head) (table : List ℕ) (c : Call) where
       record { opening = o.opening; lent = o.lent; room = o.room; guarding = p.1.0; arriving = p.1.1.0 }
 
   -- a publish has the checks of its sources too
-  pub publish_leaving : publish_checks head table c ≡ Verdict.Passes → leaving_checks (changes_of c) ≡ Verdict.Passes
+  pub publish_leaving : publish_checks head table c ≡ Ok tt → leaving_checks (changes_of c) ≡ Ok tt
   unfolding publish_checks publish_beside
   publish_leaving h = (passed _ h).1.1.1.0
 
   -- the same changes and guards pass with another strip that is proper and another record list that has room
   pub publish_relent :
       (strip list : List ℕ) → proper_strip strip ≡ true → length (changes_of c) ≤ length list →
-      publish_checks head table c ≡ Verdict.Passes →
-      publish_checks head table (lending c.change_list c.guard_list strip list) ≡ Verdict.Passes
+      publish_checks head table c ≡ Ok tt →
+      publish_checks head table (lending c.change_list c.guard_list strip list) ≡ Ok tt
   unfolding publish_checks publish_beside
   publish_relent strip list s r h =
       let p = passed _ h in
@@ -422,20 +421,20 @@ module _ (head : Head) (table : List ℕ) (c : Call) where
 
   -- rollback and removal
   pub rollback_passed :
-      rollback_checks head table c ≡ Verdict.Passes →
-      (opening_checks head table ≡ Verdict.Passes) × (lent_of c ≡ Verdict.Passes) × (guarding_of head c ≡ Verdict.Passes) × (record_check (changes_of c) c.record_list ≡ Verdict.Passes)
+      rollback_checks head table c ≡ Ok tt →
+      (opening_checks head table ≡ Ok tt) × (lent_of c ≡ Ok tt) × (guarding_of head c ≡ Ok tt) × (record_check (changes_of c) c.record_list ≡ Ok tt)
   unfolding rollback_checks
   rollback_passed h = let p = passed _ h in (p.0, p.1.0, p.1.1.0, p.1.1.1.0)
 
   pub rollback_passes :
-      opening_checks head table ≡ Verdict.Passes → lent_of c ≡ Verdict.Passes → guarding_of head c ≡ Verdict.Passes →
-      record_check (changes_of c) c.record_list ≡ Verdict.Passes → rollback_checks head table c ≡ Verdict.Passes
+      opening_checks head table ≡ Ok tt → lent_of c ≡ Ok tt → guarding_of head c ≡ Ok tt →
+      record_check (changes_of c) c.record_list ≡ Ok tt → rollback_checks head table c ≡ Ok tt
   unfolding rollback_checks
   rollback_passes h l g r = all_pass _ (h, (l, (g, (r, tt))))
 
   pub removal_passed :
-      removal_checks head table c ≡ Verdict.Passes →
-      (opening_checks head table ≡ Verdict.Passes) × (lent_of c ≡ Verdict.Passes) × (guarding_of head c ≡ Verdict.Passes)
+      removal_checks head table c ≡ Ok tt →
+      (opening_checks head table ≡ Ok tt) × (lent_of c ≡ Ok tt) × (guarding_of head c ≡ Ok tt)
   unfolding removal_checks
   removal_passed h = let p = passed _ h in (p.0, p.1.0, p.1.1.0)
 
@@ -464,18 +463,18 @@ module _ (head : Head) (table : List ℕ) (c : Call) where
             a.1;
       }
 
-  pub prepare_clear : prepare_checks head table c ≡ Verdict.Passes → Clear head table c
+  pub prepare_clear : prepare_checks head table c ≡ Ok tt → Clear head table c
   prepare_clear h = cleared (prepare_passed head table c h)
 
-  pub publish_clear : publish_checks head table c ≡ Verdict.Passes → Clear head table c
+  pub publish_clear : publish_checks head table c ≡ Ok tt → Clear head table c
   publish_clear h = cleared (publish_passed head table c h)
 
-  pub rollback_formed : rollback_checks head table c ≡ Verdict.Passes → (well_formed head table ≡ true) × (head.poisoned ≡ 0)
+  pub rollback_formed : rollback_checks head table c ≡ Ok tt → (well_formed head table ≡ true) × (head.poisoned ≡ 0)
   rollback_formed h = opened head table (rollback_passed head table c h).0
 
-  pub removal_formed : removal_checks head table c ≡ Verdict.Passes → (well_formed head table ≡ true) × (head.poisoned ≡ 0)
+  pub removal_formed : removal_checks head table c ≡ Ok tt → (well_formed head table ≡ true) × (head.poisoned ≡ 0)
   removal_formed h = opened head table (removal_passed head table c h).0
 
-pub count_formed : (head : Head) (table : List ℕ) (binding : ℕ) → count_checks head table binding ≡ Verdict.Passes → well_formed head table ≡ true
+pub count_formed : (head : Head) (table : List ℕ) (binding : ℕ) → count_checks head table binding ≡ Ok tt → well_formed head table ≡ true
 unfolding count_checks
 count_formed head table binding h = (opened head table (passed _ h).0).0

@@ -1,5 +1,6 @@
 -- What the checks name, told by change numbers: the places of destinations and of sources go up with their change numbers, so the
 -- first place has the least number.
+use Rattle.std.proofs.Common.{Err}
 use Prim.Native.Nat.{ℕ, zero, suc, ◌+◌, ◌≤◌, ◌<◌}
 use native.Mathlib.Omega.{arith}
 use mathlib.Core.Path.{◌≡◌, ap, ◌∙◌}
@@ -12,8 +13,7 @@ use lib.Dec.{leb}
 use borrow.Author.Tests.{leb-true}
 use Rattle.rules.specs.declared.Posting.{Posting}
 use Rattle.rules.specs.declared.Change.{Change}
-use Rattle.rules.specs.declared.Answer.{Answer}
-use Rattle.rules.specs.declared.Verdict.{Verdict}
+use Rattle.rules.specs.declared.Failure.{Failure}
 use Rattle.rules.specs.Postings.{present}
 use Rattle.rules.specs.Orders.{Numbered, destinations, sources, postings_of, change_numbers}
 use Rattle.rules.specs.Checks.{twice_check, present_check, overlap_check}
@@ -58,9 +58,9 @@ first_least test ds k r f j l e = go (tri k j)
 
 module _ (cs : List Change) where
   -- 7: the lower change of the pair is told first
-  pub twice_ordered : (m n : ℕ) → twice_check cs ≡ Verdict.Refused (Answer.Twice m n) → m < n
+  pub twice_ordered : (m n : ℕ) → twice_check cs ≡ Err (Failure.Twice m n) → m < n
   twice_ordered m n h =
-      let p = twice_names cs (Answer.Twice m n) h in
+      let p = twice_names cs (Failure.Twice m n) h in
       let e = p.names in
       let l : m ≡ number_at (destinations cs) p.i = cc in
       let r : n ≡ number_at (destinations cs) p.j = cc in
@@ -69,18 +69,18 @@ module _ (cs : List Change) where
 
   -- and no equal pair has a lower second change, or the same second and a lower first
   pub twice_least :
-      (m n : ℕ) → twice_check cs ≡ Verdict.Refused (Answer.Twice m n) → (i j : ℕ) → i < j → j < length (destinations cs) →
+      (m n : ℕ) → twice_check cs ≡ Err (Failure.Twice m n) → (i j : ℕ) → i < j → j < length (destinations cs) →
       twins (destinations cs) i j ≡ true →
       (n < number_at (destinations cs) j) ⊎ ((n ≡ number_at (destinations cs) j) × (m ≤ number_at (destinations cs) i))
   twice_least m n h i j k l t = go (tri p.j j)
     where
-      p : NamesPair (destinations cs) (Answer.Twice m n)
-      p = twice_names cs (Answer.Twice m n) h
+      p : NamesPair (destinations cs) (Failure.Twice m n)
+      p = twice_names cs (Failure.Twice m n) h
 
-      low : (x y : ℕ) → Answer.Twice m n ≡ Answer.Twice x y → m ≡ x
+      low : (x y : ℕ) → Failure.Twice m n ≡ Failure.Twice x y → m ≡ x
       low x y e = cc
 
-      high : (x y : ℕ) → Answer.Twice m n ≡ Answer.Twice x y → n ≡ y
+      high : (x y : ℕ) → Failure.Twice m n ≡ Failure.Twice x y → n ≡ y
       high x y e = cc
 
       up : (a b : ℕ) → a < b → b < length (destinations cs) → number_at (destinations cs) a < number_at (destinations cs) b
@@ -98,22 +98,22 @@ module _ (cs : List Change) where
 
 -- 8: the least change whose destination stands in the table
 pub present_least :
-    (ps : List Posting) (cs : List Change) (n : ℕ) → present_check ps cs ≡ Verdict.Refused (Answer.Present n) → (j : ℕ) →
+    (ps : List Posting) (cs : List Change) (n : ℕ) → present_check ps cs ≡ Err (Failure.Present n) → (j : ℕ) →
     j < length (destinations cs) → present (get_or (destinations cs) j nowhere).posting ps ≡ true →
     n ≤ number_at (destinations cs) j
 present_least ps cs n h j l e =
-    let p = present_names ps cs (Answer.Present n) h in
+    let p = present_names ps cs (Failure.Present n) h in
     let k = p.2 in
     let z : n ≡ number_at (destinations cs) p.0 = cc in
     rw z (first_least _ (destinations cs) p.0 (rising_numbers cs) p.1 j l (rw e))
 
 -- 9: the least change whose source is a destination of the list
 pub overlap_least :
-    (cs : List Change) (n : ℕ) → overlap_check cs ≡ Verdict.Refused (Answer.Overlap n) → (j : ℕ) → j < length (sources cs) →
+    (cs : List Change) (n : ℕ) → overlap_check cs ≡ Err (Failure.Overlap n) → (j : ℕ) → j < length (sources cs) →
     present (get_or (sources cs) j nowhere).posting (postings_of (destinations cs)) ≡ true →
     n ≤ number_at (sources cs) j
 overlap_least cs n h j l e =
-    let p = overlap_names cs (Answer.Overlap n) h in
+    let p = overlap_names cs (Failure.Overlap n) h in
     let k = p.2 in
     let z : n ≡ number_at (sources cs) p.0 = cc in
     rw z (first_least _ (sources cs) p.0 (rising_sources cs) p.1 j l (rw e))

@@ -7,7 +7,7 @@ use mathlib.Core.Bool.{Bool, true, false, cond, not, ◌&&◌, ◌||◌, or_self
 use mathlib.Mathlib.Data.Bool.Basic.{eq-false_of_not-eq-true}
 use lib.ListN.{length}
 use Rattle.rules.specs.declared.Posting.{Posting}
-use Rattle.rules.specs.declared.Order.{Order}
+use Rattle.std.specs.declared.cmp.Ordering.{Ordering}
 use Rattle.rules.specs.Postings.{compared, is_same, same, present, placed, inserted, removed}
 use Rattle.booleans.proofs.Tests.{by_cases, clash, or_left, or_right, or_swap}
 use Rattle.laws.proofs.Ranks.{compared_same, same_equal, same_self}
@@ -19,13 +19,13 @@ present_inserted p q [] = refl
 present_inserted p q (x ∷ xs) = go (compared q x) refl (present_inserted p q xs)
   where
     go :
-        (o : Order) → compared q x ≡ o → present p (inserted q xs) ≡ (same p q || present p xs) →
+        (o : Ordering) → compared q x ≡ o → present p (inserted q xs) ≡ (same p q || present p xs) →
         present p (placed o q x xs (inserted q xs)) ≡ (same p q || (same p x || present p xs))
-    go Order.Before e ih = refl
-    go Order.Same e ih =
+    go Ordering.Less e ih = refl
+    go Ordering.Equal e ih =
         let k : same p q ≡ same p x = ap (same p) (compared_same q x e) in
         rw k (sym (or_self_left (same p x) (present p xs)))
-    go Order.After e ih = rw ih (or_swap (same p x) (same p q) (present p xs))
+    go Ordering.Greater e ih = rw ih (or_swap (same p x) (same p q) (present p xs))
 
 not_twice : (a b : Bool) → (b && not a) ≡ ((a || b) && not a)
 not_twice true true = refl
@@ -78,10 +78,10 @@ removed_inserted p (x ∷ xs) h = go (compared p x) refl (removed_inserted p xs 
     absent : present p xs ≡ false
     absent = or_right (same p x) (present p xs) h
 
-    go : (o : Order) → compared p x ≡ o → removed p (inserted p xs) ≡ xs → removed p (placed o p x xs (inserted p xs)) ≡ x ∷ xs
-    go Order.Before e ih = rw (same_self p, apart, removed_absent p xs absent)
-    go Order.Same e ih = rw (apart, removed_absent p xs absent)
-    go Order.After e ih = rw (apart, ih)
+    go : (o : Ordering) → compared p x ≡ o → removed p (inserted p xs) ≡ xs → removed p (placed o p x xs (inserted p xs)) ≡ x ∷ xs
+    go Ordering.Less e ih = rw (same_self p, apart, removed_absent p xs absent)
+    go Ordering.Equal e ih = rw (apart, removed_absent p xs absent)
+    go Ordering.Greater e ih = rw (apart, ih)
 
 pub length_inserted : (p : Posting) (l : List Posting) → present p l ≡ false → length (inserted p l) ≡ suc (length l)
 unfolding present inserted same
@@ -89,11 +89,11 @@ length_inserted p [] h = refl
 length_inserted p (x ∷ xs) h = go (compared p x) refl (length_inserted p xs (or_right (same p x) (present p xs) h))
   where
     go :
-        (o : Order) → compared p x ≡ o → length (inserted p xs) ≡ suc (length xs) →
+        (o : Ordering) → compared p x ≡ o → length (inserted p xs) ≡ suc (length xs) →
         length (placed o p x xs (inserted p xs)) ≡ suc (suc (length xs))
-    go Order.Before e ih = refl
-    go Order.Same e ih = absurd (clash (same p x) (ap is_same e) (or_left (same p x) (present p xs) h))
-    go Order.After e ih = ap suc ih
+    go Ordering.Less e ih = refl
+    go Ordering.Equal e ih = absurd (clash (same p x) (ap is_same e) (or_left (same p x) (present p xs) h))
+    go Ordering.Greater e ih = ap suc ih
 
 pub length_inserted_most : (p : Posting) (l : List Posting) → length (inserted p l) ≤ suc (length l)
 unfolding inserted
@@ -101,11 +101,11 @@ length_inserted_most p [] = omega arith
 length_inserted_most p (x ∷ xs) = go (compared p x) (length_inserted_most p xs)
   where
     go :
-        (o : Order) → length (inserted p xs) ≤ suc (length xs) →
+        (o : Ordering) → length (inserted p xs) ≤ suc (length xs) →
         length (placed o p x xs (inserted p xs)) ≤ suc (suc (length xs))
-    go Order.Before ih = omega arith
-    go Order.Same ih = omega arith
-    go Order.After ih = omega arith
+    go Ordering.Less ih = omega arith
+    go Ordering.Equal ih = omega arith
+    go Ordering.Greater ih = omega arith
 
 pub length_removed : (p : Posting) (l : List Posting) → length (removed p l) ≤ length l
 unfolding removed

@@ -1,4 +1,5 @@
 -- Each check that names something names the first, and where it passes nothing is bad.
+use Rattle.std.proofs.Common.{Result, Ok, Err}
 use Prim.Native.Nat.{ℕ, zero, suc, ◌+◌, ◌<◌}
 use native.Mathlib.Nat.{zero-add}
 use native.Mathlib.Omega.{arith}
@@ -14,8 +15,7 @@ use borrow.Author.Tests.{eq-eqb, eqb-true, eqb-false, not-true, not-false}
 use Rattle.rules.specs.declared.Posting.{Posting}
 use Rattle.rules.specs.declared.Change.{Change}
 use Rattle.rules.specs.declared.Guard.{Guard}
-use Rattle.rules.specs.declared.Answer.{Answer}
-use Rattle.rules.specs.declared.Verdict.{Verdict}
+use Rattle.rules.specs.declared.Failure.{Failure}
 use Rattle.rules.specs.Postings.{present}
 use Rattle.rules.specs.Orders.{Numbered, held, destinations, sources, postings_of, no_change}
 use Rattle.rules.specs.Checks.{must, or_else, first_refusal, first_failing, guarded, guard_check, recordable, record_from, record_check, first_equal, twice_from, twice_check, present_check, overlap_check}
@@ -28,8 +28,8 @@ use Rattle.laws.proofs.Checks.{failing_first, failing_rest}
 
 -- where none fails
 pub failing_passes :
-    {A : Type 0} (none : A) (test : A → Bool) (answer : ℕ → A → Answer) (i : ℕ) (xs : List A) →
-    first_failing test answer i xs ≡ Verdict.Passes → (k : ℕ) → k < length xs → test (get_or xs k none) ≡ true
+    {A : Type 0} (none : A) (test : A → Bool) (answer : ℕ → A → Failure) (i : ℕ) (xs : List A) →
+    first_failing test answer i xs ≡ Ok tt → (k : ℕ) → k < length xs → test (get_or xs k none) ≡ true
 failing_passes none test answer i [] h k l = absurd (omega arith)
 failing_passes none test answer i (x ∷ xs) h zero l = failing_first test answer i x xs h
 failing_passes none test answer i (x ∷ xs) h (suc k) l =
@@ -37,19 +37,19 @@ failing_passes none test answer i (x ∷ xs) h (suc k) l =
 
 -- where one fails, the first is named
 pub failing_names :
-    {A : Type 0} (none : A) (test : A → Bool) (answer : ℕ → A → Answer) (i : ℕ) (xs : List A) (a : Answer) →
-    first_failing test answer i xs ≡ Verdict.Refused a → NamesFirst none test answer i xs a
+    {A : Type 0} (none : A) (test : A → Bool) (answer : ℕ → A → Failure) (i : ℕ) (xs : List A) (a : Failure) →
+    first_failing test answer i xs ≡ Err a → NamesFirst none test answer i xs a
 unfolding first_failing
 failing_names none test answer i [] a h = impossible (cc)
 failing_names none test answer i (x ∷ xs) a h = go (test x) refl (failing_names none test answer (i + 1) xs a) h
   where
-    refused : {v w : Answer} → Verdict.Refused v ≡ Verdict.Refused w → v ≡ w
+    refused : {v w : Failure} → ◌≡◌ {A = Result Unit Failure} (Err v) (Err w) → v ≡ w
     refused {v} {w} e = cc
 
     go :
         (b : Bool) → test x ≡ b →
-        (first_failing test answer (i + 1) xs ≡ Verdict.Refused a → NamesFirst none test answer (i + 1) xs a) →
-        or_else (must b (answer i x)) (first_failing test answer (i + 1) xs) ≡ Verdict.Refused a →
+        (first_failing test answer (i + 1) xs ≡ Err a → NamesFirst none test answer (i + 1) xs a) →
+        or_else (must b (answer i x)) (first_failing test answer (i + 1) xs) ≡ Err a →
         NamesFirst none test answer i (x ∷ xs) a
     go false e ih h =
         let n : i ≡ i + 0 = omega arith in
@@ -81,29 +81,29 @@ failing_names none test answer i (x ∷ xs) a h = go (test x) refl (failing_name
 -- 6
 module _ (bindings : ℕ) (gs : List Guard) (cs : List Change) where
   pub guard_passes :
-      guard_check bindings gs cs ≡ Verdict.Passes → (k : ℕ) → k < length cs → guarded bindings gs (get_or cs k no_change) ≡ true
+      guard_check bindings gs cs ≡ Ok tt → (k : ℕ) → k < length cs → guarded bindings gs (get_or cs k no_change) ≡ true
   unfolding guard_check
   guard_passes h = failing_passes no_change _ _ 0 cs h
 
   pub guard_names :
-      (a : Answer) → guard_check bindings gs cs ≡ Verdict.Refused a →
-      (k : ℕ) × FirstAt (guarded bindings gs) no_change cs k × (a ≡ Answer.Guard k)
+      (a : Failure) → guard_check bindings gs cs ≡ Err a →
+      (k : ℕ) × FirstAt (guarded bindings gs) no_change cs k × (a ≡ Failure.Guard k)
   unfolding guard_check
   guard_names a h =
       let n = failing_names no_change _ _ 0 cs a h in
-      (n.at, n.first, n.names ∙ ap Answer.Guard (zero-add n.at))
+      (n.at, n.first, n.names ∙ ap Failure.Guard (zero-add n.at))
 
 -- 8
 module _ (ps : List Posting) (cs : List Change) where
   pub present_passes :
-      present_check ps cs ≡ Verdict.Passes → (k : ℕ) → k < length (destinations cs) →
+      present_check ps cs ≡ Ok tt → (k : ℕ) → k < length (destinations cs) →
       present (get_or (destinations cs) k nowhere).posting ps ≡ false
   unfolding present_check
   present_passes h k l = not-true _ (failing_passes nowhere _ _ 0 (destinations cs) h k l)
 
   pub present_names :
-      (a : Answer) → present_check ps cs ≡ Verdict.Refused a →
-      (k : ℕ) × FirstAt (λ (d : Numbered). not (present d.posting ps)) nowhere (destinations cs) k × (a ≡ Answer.Present (number_at (destinations cs) k))
+      (a : Failure) → present_check ps cs ≡ Err a →
+      (k : ℕ) × FirstAt (λ (d : Numbered). not (present d.posting ps)) nowhere (destinations cs) k × (a ≡ Failure.Present (number_at (destinations cs) k))
   unfolding present_check
   present_names a h =
       let n = failing_names nowhere _ _ 0 (destinations cs) a h in
@@ -112,14 +112,14 @@ module _ (ps : List Posting) (cs : List Change) where
 -- 9
 module _ (cs : List Change) where
   pub overlap_passes :
-      overlap_check cs ≡ Verdict.Passes → (k : ℕ) → k < length (sources cs) →
+      overlap_check cs ≡ Ok tt → (k : ℕ) → k < length (sources cs) →
       present (get_or (sources cs) k nowhere).posting (postings_of (destinations cs)) ≡ false
   unfolding overlap_check
   overlap_passes h k l = not-true _ (failing_passes nowhere _ _ 0 (sources cs) h k l)
 
   pub overlap_names :
-      (a : Answer) → overlap_check cs ≡ Verdict.Refused a →
-      (k : ℕ) × FirstAt (λ (s : Numbered). not (present s.posting (postings_of (destinations cs)))) nowhere (sources cs) k × (a ≡ Answer.Overlap (number_at (sources cs) k))
+      (a : Failure) → overlap_check cs ≡ Err a →
+      (k : ℕ) × FirstAt (λ (s : Numbered). not (present s.posting (postings_of (destinations cs)))) nowhere (sources cs) k × (a ≡ Failure.Overlap (number_at (sources cs) k))
   unfolding overlap_check
   overlap_names a h =
       let n = failing_names nowhere _ _ 0 (sources cs) a h in
@@ -143,7 +143,7 @@ module _ (all earlier : List Numbered) (d : Numbered) (ds : List Numbered) (e : 
   longer = length-append earlier (d ∷ [])
 
   -- d differs from the earlier ones
-  apart_more : Apart all (length earlier) → first_equal d earlier ≡ Verdict.Passes → Apart all (length (earlier ++ d ∷ []))
+  apart_more : Apart all (length earlier) → first_equal d earlier ≡ Ok tt → Apart all (length (earlier ++ d ∷ []))
   unfolding first_equal
   apart_more f h l m x y = go (eqb m (length earlier)) refl
     where
@@ -157,8 +157,8 @@ module _ (all earlier : List Numbered) (d : Numbered) (ds : List Numbered) (e : 
           f l m x (omega arith)
 
   pair_here :
-      (a : Answer) → Apart all (length earlier) → first_equal d earlier ≡ Verdict.Refused a →
-      (i : ℕ) × FirstPair all i (length earlier) × (a ≡ Answer.Twice (number_at all i) (number_at all (length earlier)))
+      (a : Failure) → Apart all (length earlier) → first_equal d earlier ≡ Err a →
+      (i : ℕ) × FirstPair all i (length earlier) × (a ≡ Failure.Twice (number_at all i) (number_at all (length earlier)))
   unfolding first_equal
   pair_here a f h =
       let n = failing_names nowhere _ _ 0 earlier a h in
@@ -171,12 +171,12 @@ module _ (all earlier : List Numbered) (d : Numbered) (ds : List Numbered) (e : 
           nearest = λ l k. rw (at_here, at_earlier l (omega arith)) (not-true _ (n.first.before l k));
           before = f;
         },
-        n.names ∙ (λ k. Answer.Twice (sym (at_earlier n.at t) k).number (sym at_here k).number),
+        n.names ∙ (λ k. Failure.Twice (sym (at_earlier n.at t) k).number (sym at_here k).number),
       )
 
 twice_from_lem :
     (all earlier ds : List Numbered) → all ≡ earlier ++ ds → Apart all (length earlier) →
-    (twice_from earlier ds ≡ Verdict.Passes → Apart all (length all)) × ((a : Answer) → twice_from earlier ds ≡ Verdict.Refused a → NamesPair all a)
+    (twice_from earlier ds ≡ Ok tt → Apart all (length all)) × ((a : Failure) → twice_from earlier ds ≡ Err a → NamesPair all a)
 unfolding twice_from
 twice_from_lem all earlier [] e f = (
   (λ h. let n : length all ≡ length earlier = ap length e ∙ (length-append earlier [] ∙ omega arith) in rw n f),
@@ -187,11 +187,11 @@ twice_from_lem all earlier (d ∷ ds) e f =
     (λ h. twice_from_lem all (earlier ++ d ∷ []) ds (further all earlier d ds e) (apart_more all earlier d ds e f h))
   where
     go :
-        (v : Verdict) → first_equal d earlier ≡ v →
-        (first_equal d earlier ≡ Verdict.Passes → (twice_from (earlier ++ d ∷ []) ds ≡ Verdict.Passes → Apart all (length all)) × ((a : Answer) → twice_from (earlier ++ d ∷ []) ds ≡ Verdict.Refused a → NamesPair all a)) →
-        (or_else v (twice_from (earlier ++ d ∷ []) ds) ≡ Verdict.Passes → Apart all (length all)) × ((a : Answer) → or_else v (twice_from (earlier ++ d ∷ []) ds) ≡ Verdict.Refused a → NamesPair all a)
-    go Verdict.Passes h ih = ih h
-    go (Verdict.Refused b) h ih = (
+        (v : Result Unit Failure) → first_equal d earlier ≡ v →
+        (first_equal d earlier ≡ Ok tt → (twice_from (earlier ++ d ∷ []) ds ≡ Ok tt → Apart all (length all)) × ((a : Failure) → twice_from (earlier ++ d ∷ []) ds ≡ Err a → NamesPair all a)) →
+        (or_else v (twice_from (earlier ++ d ∷ []) ds) ≡ Ok tt → Apart all (length all)) × ((a : Failure) → or_else v (twice_from (earlier ++ d ∷ []) ds) ≡ Err a → NamesPair all a)
+    go (Ok _) h ih = ih h
+    go (Err b) h ih = (
       (λ k. impossible (cc)),
       (λ a k.
           let p = pair_here all earlier d ds e a f (h ∙ k) in
@@ -199,15 +199,15 @@ twice_from_lem all earlier (d ∷ ds) e f =
     )
 
 module _ (cs : List Change) where
-  both_ways : (twice_from [] (destinations cs) ≡ Verdict.Passes → Apart (destinations cs) (length (destinations cs))) × ((a : Answer) → twice_from [] (destinations cs) ≡ Verdict.Refused a → NamesPair (destinations cs) a)
+  both_ways : (twice_from [] (destinations cs) ≡ Ok tt → Apart (destinations cs) (length (destinations cs))) × ((a : Failure) → twice_from [] (destinations cs) ≡ Err a → NamesPair (destinations cs) a)
   both_ways = twice_from_lem (destinations cs) [] (destinations cs) refl λ l m x y. absurd (omega arith)
 
   -- upstream's unique_destinations
-  pub twice_passes : twice_check cs ≡ Verdict.Passes → Apart (destinations cs) (length (destinations cs))
+  pub twice_passes : twice_check cs ≡ Ok tt → Apart (destinations cs) (length (destinations cs))
   unfolding twice_check
   twice_passes h = both_ways.0 h
 
-  pub twice_names : (a : Answer) → twice_check cs ≡ Verdict.Refused a → NamesPair (destinations cs) a
+  pub twice_names : (a : Failure) → twice_check cs ≡ Err a → NamesPair (destinations cs) a
   unfolding twice_check
   twice_names a h = both_ways.1 a h
 
@@ -275,7 +275,7 @@ module _ (cs : List Change) (all pre : List ℕ) (n : ℕ) (ns earlier : List �
 record_from_lem :
     (cs : List Change) (all pre ns earlier : List ℕ) → all ≡ pre ++ ns → ((m : ℕ) → among m earlier ≡ among m pre) →
     AllFine cs all (length pre) →
-    (record_from (length pre) cs earlier ns ≡ Verdict.Passes → AllFine cs all (length all)) × ((a : Answer) → record_from (length pre) cs earlier ns ≡ Verdict.Refused a → NamesBad cs all a)
+    (record_from (length pre) cs earlier ns ≡ Ok tt → AllFine cs all (length all)) × ((a : Failure) → record_from (length pre) cs earlier ns ≡ Err a → NamesBad cs all a)
 unfolding record_from
 record_from_lem cs all pre [] earlier e f g = (
   (λ h. let n : length all ≡ length pre = ap length e ∙ (length-append pre [] ∙ omega arith) in rw n g),
@@ -288,13 +288,13 @@ record_from_lem cs all pre (n ∷ ns) earlier e f g =
     (record_from_lem cs all (pre ++ n ∷ []) ns (n ∷ earlier) (numbers_further cs all pre n ns earlier e f) (tally cs all pre n ns earlier e f)
     (fine_more cs all pre n ns earlier e f g (and_elim_left (recordable cs n) (not (among n earlier)) h) (not-true (among n earlier) (and_elim_right (recordable cs n) (not (among n earlier)) h)))))
   where
-    Both : Verdict → Type 0
-    Both v = (v ≡ Verdict.Passes → AllFine cs all (length all)) × ((a : Answer) → v ≡ Verdict.Refused a → NamesBad cs all a)
+    Both : Result Unit Failure → Type 0
+    Both v = (v ≡ Ok tt → AllFine cs all (length all)) × ((a : Failure) → v ≡ Err a → NamesBad cs all a)
 
     go :
         (b : Bool) → (recordable cs n && not (among n earlier)) ≡ b →
         ((recordable cs n && not (among n earlier)) ≡ true → Both (record_from (length pre + 1) cs (n ∷ earlier) ns)) →
-        Both (or_else (must b (Answer.Record (length pre))) (record_from (length pre + 1) cs (n ∷ earlier) ns))
+        Both (or_else (must b (Failure.Record (length pre))) (record_from (length pre + 1) cs (n ∷ earlier) ns))
     go true h ih = ih h
     go false h ih = (
       (λ k. impossible (cc)),
@@ -302,21 +302,21 @@ record_from_lem cs all pre (n ∷ ns) earlier e f g =
     )
       where
         same_refusal :
-            {a : Answer} → Verdict.Refused (Answer.Record (length pre)) ≡ Verdict.Refused a → a ≡ Answer.Record (length pre)
+            {a : Failure} → ◌≡◌ {A = Result Unit Failure} (Err (Failure.Record (length pre))) (Err a) → a ≡ Failure.Record (length pre)
         same_refusal {a} k = cc
 
 module _ (cs : List Change) (list : List ℕ) where
-  record_both : (record_from 0 cs [] list ≡ Verdict.Passes → AllFine cs list (length list)) × ((a : Answer) → record_from 0 cs [] list ≡ Verdict.Refused a → NamesBad cs list a)
+  record_both : (record_from 0 cs [] list ≡ Ok tt → AllFine cs list (length list)) × ((a : Failure) → record_from 0 cs [] list ≡ Err a → NamesBad cs list a)
   record_both = record_from_lem cs list [] list [] refl (λ m. refl) λ i h. absurd (omega arith)
 
   -- upstream's valid_indices
   pub record_passes :
-      record_check cs list ≡ Verdict.Passes → (i : ℕ) → i < length list →
+      record_check cs list ≡ Ok tt → (i : ℕ) → i < length list →
       (recordable cs (get_or list i 0) ≡ true) × (Repeated list i → ⊥)
   unfolding record_check
   record_passes h = record_both.0 h
 
-  pub record_names : (a : Answer) → record_check cs list ≡ Verdict.Refused a → NamesBad cs list a
+  pub record_names : (a : Failure) → record_check cs list ≡ Err a → NamesBad cs list a
   unfolding record_check
   record_names a h = record_both.1 a h
 
@@ -350,17 +350,17 @@ at_held binding key (g ∷ gs) zero l b k = rw (eq-eqb binding g.binding (sym b)
 at_held binding key (g ∷ gs) (suc i) l b k = rw (at_held binding key gs i (omega arith) b k) (or-true (eqb binding g.binding && eqb key g.key))
 
 -- of a list of checks the first that refuses gives the answer
-pub refused_at : (vs : List Verdict) (a : Answer) → first_refusal vs ≡ Verdict.Refused a → RefusedAt vs a
+pub refused_at : (vs : List (Result Unit Failure)) (a : Failure) → first_refusal vs ≡ Err a → RefusedAt vs a
 unfolding first_refusal
 refused_at [] a h = impossible (cc)
 refused_at (v ∷ vs) a h = go v (refused_at vs a) h
   where
     go :
-        (w : Verdict) → (first_refusal vs ≡ Verdict.Refused a → RefusedAt vs a) → or_else w (first_refusal vs) ≡ Verdict.Refused a →
+        (w : Result Unit Failure) → (first_refusal vs ≡ Err a → RefusedAt vs a) → or_else w (first_refusal vs) ≡ Err a →
         RefusedAt (w ∷ vs) a
-    go (Verdict.Refused b) ih k =
+    go (Err b) ih k =
         record { at = 0; there = omega arith; refuses = k; before = λ i l. absurd (omega arith) }
-    go Verdict.Passes ih k =
+    go (Ok _) ih k =
         let r = ih k in
         record {
           at = suc r.at;
@@ -370,7 +370,7 @@ refused_at (v ∷ vs) a h = go v (refused_at vs a) h
         }
       where
         earlier :
-            (m : ℕ) → ((i : ℕ) → i < m → get_or vs i Verdict.Passes ≡ Verdict.Passes) → (i : ℕ) → i < suc m →
-            get_or (Verdict.Passes ∷ vs) i Verdict.Passes ≡ Verdict.Passes
+            (m : ℕ) → ((i : ℕ) → i < m → get_or vs i (Ok tt) ≡ Ok tt) → (i : ℕ) → i < suc m →
+            get_or ((Ok tt) ∷ vs) i (Ok tt) ≡ Ok tt
         earlier m f zero l = refl
         earlier m f (suc i) l = f i (omega arith)

@@ -1,4 +1,5 @@
 -- How each call ends, seen on the lent table. Every law about whole calls goes by these cases.
+use Rattle.std.proofs.Common.{Result, Ok, Err, ℕ}
 use Prim.Native.Nat.{ℕ}
 use native.Mathlib.Omega.{arith}
 use mathlib.Core.Path.{◌≡◌, refl, ap, ◌∙◌}
@@ -8,8 +9,7 @@ use mathlib.Core.Logic.{◌⊎◌, ⊎_elim}
 use lib.ListN.{length}
 use Rattle.lent_lists.specs.Written.{written}
 use Rattle.rules.specs.declared.Head.{Head}
-use Rattle.rules.specs.declared.Answer.{Answer}
-use Rattle.rules.specs.declared.Verdict.{Verdict}
+use Rattle.rules.specs.declared.Failure.{Failure}
 use Rattle.rules.specs.Table.{capacity, postings, laid_out, well_formed}
 use Rattle.rules.specs.Orders.{Numbered, destinations, sources, change_numbers, recorded, Call, changes_of}
 use Rattle.rules.specs.Answers.{is_accepted, poisons}
@@ -25,7 +25,7 @@ use Rattle.laws.proofs.Checks.{Clear, publish_clear, prepare_clear}
 
 -- a stage that leaves the postings as they were, and poisons not, leaves everything as before
 pub shown_same :
-    (head : Head) (table list : List ℕ) (s : Stage) (a : Answer) → well_formed head table ≡ true → s.answer ≡ a →
+    (head : Head) (table list : List ℕ) (s : Stage) (a : Result ℕ Failure) → well_formed head table ≡ true → s.answer ≡ a →
     poisons a ≡ false → s.postings ≡ postings head.used table → shown head table list s ≡ as_before head table list a
 shown_same head table list s a h e n k =
     let w = well_formed_parts head table h in
@@ -34,11 +34,11 @@ shown_same head table list s a h e n k =
     let p : cond (poisons s.answer) 1 head.poisoned ≡ head.poisoned = rw (e, n) in
     λ i. record { answer = e i; head = head_with head (u i) (p i); table = t i; record_list = list }
 
-pub cause_poisons_not : (byte used size change : ℕ) (why : Answer) → Cause byte used size change why → poisons why ≡ false
+pub cause_poisons_not : (byte used size change : ℕ) (why : Failure) → Cause byte used size change why → poisons (Err why) ≡ false
 cause_poisons_not byte used size change why (store h) = refl
 cause_poisons_not byte used size change why (full h k) = refl
 
-pub cause_accepts_not : (byte used size change : ℕ) (why : Answer) → Cause byte used size change why → is_accepted why ≡ false
+pub cause_accepts_not : (byte used size change : ℕ) (why : Failure) → Cause byte used size change why → is_accepted (Err why) ≡ false
 cause_accepts_not byte used size change why (store h) = refl
 cause_accepts_not byte used size change why (full h k) = refl
 
@@ -65,24 +65,24 @@ module _ (head : Head) (table : List ℕ) (c : Call) where
   abbrev pub accepted : Outcome
   accepted =
       shown head table (written (change_numbers (going c)) c.record_list)
-      (record { answer = Answer.Accepted (length (going c)); postings = taken_away (leaving c) (added (going c) (postings_before head table)); read = 0 })
+      (record { answer = Ok (length (going c)); postings = taken_away (leaving c) (added (going c) (postings_before head table)); read = 0 })
 
   -- its source removal
   abbrev pub sources_gone : Stage
-  sources_gone = removing c.strip (Answer.Accepted (length (going c))) (leaving c) (length (going c)) (added (going c) (postings_before head table))
+  sources_gone = removing c.strip (Ok (length (going c))) (leaving c) (length (going c)) (added (going c) (postings_before head table))
 
   pub data Published (o : Outcome) : Type 0 where
     refused :
-        (a : Answer) → publish_checks head table c ≡ Verdict.Refused a → o ≡ as_before head table c.record_list a → Published o
+        (a : Failure) → publish_checks head table c ≡ Err a → o ≡ as_before head table c.record_list (Err a) → Published o
     taken :
-        publish_checks head table c ≡ Verdict.Passes → IsReady →
-        Cleared c.strip (Answer.Accepted (length (going c))) (leaving c) (length (going c)) (added (going c) (postings_before head table)) sources_gone →
+        publish_checks head table c ≡ Ok tt → IsReady →
+        Cleared c.strip (Ok (length (going c))) (leaving c) (length (going c)) (added (going c) (postings_before head table)) sources_gone →
         o ≡ accepted → Published o
     halted :
-        publish_checks head table c ≡ Verdict.Passes → IsReady → Halted c.strip (leaving c) (length (going c)) sources_gone →
+        publish_checks head table c ≡ Ok tt → IsReady → Halted c.strip (leaving c) (length (going c)) sources_gone →
         o ≡ shown head table (written (change_numbers (going c)) c.record_list) sources_gone → Published o
     stopped :
-        publish_checks head table c ≡ Verdict.Passes → IsStopped → o ≡ shown head table c.record_list (prepared head table c) →
+        publish_checks head table c ≡ Ok tt → IsStopped → o ≡ shown head table c.record_list (prepared head table c) →
         Published o
 
   -- prepare's part: what it comes to where its checks pass
@@ -99,7 +99,7 @@ module _ (head : Head) (table : List ℕ) (c : Call) where
 
   ready_sources : IsReady → then_sources c.strip (leaving c) (prepared head table c) ≡ sources_gone
   ready_sources r =
-      let a : (prepared head table c).answer ≡ Answer.Accepted (length (going c)) = r.answers ∙ ap Answer.Accepted (omega arith) in
+      let a : (prepared head table c).answer ≡ Ok (length (going c)) = r.answers ∙ ap Ok (omega arith) in
       let n : (prepared head table c).read ≡ length (going c) = let k = r.reads in omega arith in
       rw (a, r.leaves, n)
 
@@ -108,8 +108,8 @@ module _ (head : Head) (table : List ℕ) (c : Call) where
 
   cleared_accepted :
       (list : List ℕ) →
-      Cleared c.strip (Answer.Accepted (length (going c))) (leaving c) (length (going c)) (added (going c) (postings_before head table)) sources_gone →
-      shown head table list sources_gone ≡ shown head table list (record { answer = Answer.Accepted (length (going c)); postings = taken_away (leaving c) (added (going c) (postings_before head table)); read = 0 })
+      Cleared c.strip (Ok (length (going c))) (leaving c) (length (going c)) (added (going c) (postings_before head table)) sources_gone →
+      shown head table list sources_gone ≡ shown head table list (record { answer = Ok (length (going c)); postings = taken_away (leaving c) (added (going c) (postings_before head table)); read = 0 })
   cleared_accepted list k = rw (k.answers, k.leaves)
 
   pub published : Published (publish_of head table c)
@@ -117,10 +117,10 @@ module _ (head : Head) (table : List ℕ) (c : Call) where
   published = go (publish_checks head table c) refl
     where
       go :
-          (v : Verdict) → publish_checks head table c ≡ v →
+          (v : Result Unit Failure) → publish_checks head table c ≡ v →
           Published (unless_refused v (as_before head table c.record_list) (shown head table (record_after (prepared head table c) (going c) c.record_list) (then_sources c.strip (leaving c) (prepared head table c))))
-      go (Verdict.Refused a) e = Published.refused a e refl
-      go Verdict.Passes e = ⊎_elim ready stop (prepared_runs (publish_clear head table c e))
+      go (Err a) e = Published.refused a e refl
+      go (Ok _) e = ⊎_elim ready stop (prepared_runs (publish_clear head table c e))
         where
           ready :
               IsReady →
@@ -128,7 +128,7 @@ module _ (head : Head) (table : List ℕ) (c : Call) where
           ready r =
               rw (ready_sources r, ready_record r)
               (⊎_elim (λ k. Published.taken e r k (cleared_accepted (written (change_numbers (going c)) c.record_list) k)) (λ k. Published.halted e r k refl)
-              (remove_runs c.strip (Answer.Accepted (length (going c))) (leaving c) (length (going c)) (added (going c) (postings_before head table))))
+              (remove_runs c.strip (Ok (length (going c))) (leaving c) (length (going c)) (added (going c) (postings_before head table))))
 
           stop :
               IsStopped →
@@ -137,12 +137,12 @@ module _ (head : Head) (table : List ℕ) (c : Call) where
 
   pub data Prepares (o : Outcome) : Type 0 where
     refused :
-        (a : Answer) → prepare_checks head table c ≡ Verdict.Refused a → o ≡ as_before head table c.record_list a → Prepares o
+        (a : Failure) → prepare_checks head table c ≡ Err a → o ≡ as_before head table c.record_list (Err a) → Prepares o
     ready :
-        prepare_checks head table c ≡ Verdict.Passes → IsReady →
+        prepare_checks head table c ≡ Ok tt → IsReady →
         o ≡ shown head table (written (change_numbers (going c)) c.record_list) (prepared head table c) → Prepares o
     stopped :
-        prepare_checks head table c ≡ Verdict.Passes → IsStopped → o ≡ shown head table c.record_list (prepared head table c) →
+        prepare_checks head table c ≡ Ok tt → IsStopped → o ≡ shown head table c.record_list (prepared head table c) →
         Prepares o
 
   pub prepares : Prepares (prepare_of head table c)
@@ -150,24 +150,24 @@ module _ (head : Head) (table : List ℕ) (c : Call) where
   prepares = go (prepare_checks head table c) refl
     where
       go :
-          (v : Verdict) → prepare_checks head table c ≡ v →
+          (v : Result Unit Failure) → prepare_checks head table c ≡ v →
           Prepares (unless_refused v (as_before head table c.record_list) (shown head table (record_after (prepared head table c) (going c) c.record_list) (prepared head table c)))
-      go (Verdict.Refused a) e = Prepares.refused a e refl
-      go Verdict.Passes e =
+      go (Err a) e = Prepares.refused a e refl
+      go (Ok _) e =
           ⊎_elim (λ r. Prepares.ready e r (rw r.answers)) (λ s. Prepares.stopped e s (rw (stop_not_accepted s))) (prepared_runs (prepare_clear head table c e))
 
   -- rollback's run over its record
   abbrev pub undid : Undone
-  undid = undoing c.strip (recorded_back c) Verdict.Passes 0 (postings_before head table)
+  undid = undoing c.strip (recorded_back c) (Ok tt) 0 (postings_before head table)
 
   pub data RollsBack (o : Outcome) : Type 0 where
     refused :
-        (a : Answer) → rollback_checks head table c ≡ Verdict.Refused a → o ≡ as_before head table c.record_list a → RollsBack o
+        (a : Failure) → rollback_checks head table c ≡ Err a → o ≡ as_before head table c.record_list (Err a) → RollsBack o
     clean :
-        rollback_checks head table c ≡ Verdict.Passes → UndoClean c.strip (recorded_back c) Verdict.Passes 0 (postings_before head table) undid →
+        rollback_checks head table c ≡ Ok tt → UndoClean c.strip (recorded_back c) (Ok tt) 0 (postings_before head table) undid →
         o ≡ shown head table c.record_list (rolled_back undid) → RollsBack o
     failed :
-        rollback_checks head table c ≡ Verdict.Passes → UndoFailed c.strip (recorded_back c) 0 undid →
+        rollback_checks head table c ≡ Ok tt → UndoFailed c.strip (recorded_back c) 0 undid →
         o ≡ shown head table c.record_list (rolled_back undid) → RollsBack o
 
   pub rolls_back : RollsBack (rollback_of head table c)
@@ -175,24 +175,24 @@ module _ (head : Head) (table : List ℕ) (c : Call) where
   rolls_back = go (rollback_checks head table c) refl
     where
       go :
-          (v : Verdict) → rollback_checks head table c ≡ v →
+          (v : Result Unit Failure) → rollback_checks head table c ≡ v →
           RollsBack (unless_refused v (as_before head table c.record_list) (shown head table c.record_list (rolled_back undid)))
-      go (Verdict.Refused a) e = RollsBack.refused a e refl
-      go Verdict.Passes e =
-          ⊎_elim (λ k. RollsBack.clean e k refl) (λ k. RollsBack.failed e k refl) (undo_runs c.strip (recorded_back c) Verdict.Passes 0 (postings_before head table))
+      go (Err a) e = RollsBack.refused a e refl
+      go (Ok _) e =
+          ⊎_elim (λ k. RollsBack.clean e k refl) (λ k. RollsBack.failed e k refl) (undo_runs c.strip (recorded_back c) (Ok tt) 0 (postings_before head table))
 
   -- source removal alone
   abbrev pub removed_alone : Stage
-  removed_alone = removing c.strip (Answer.Accepted 0) (leaving c) 0 (postings_before head table)
+  removed_alone = removing c.strip (Ok 0) (leaving c) 0 (postings_before head table)
 
   pub data Removes (o : Outcome) : Type 0 where
     refused :
-        (a : Answer) → removal_checks head table c ≡ Verdict.Refused a → o ≡ as_before head table c.record_list a → Removes o
+        (a : Failure) → removal_checks head table c ≡ Err a → o ≡ as_before head table c.record_list (Err a) → Removes o
     cleared :
-        removal_checks head table c ≡ Verdict.Passes → Cleared c.strip (Answer.Accepted 0) (leaving c) 0 (postings_before head table) removed_alone →
+        removal_checks head table c ≡ Ok tt → Cleared c.strip (Ok 0) (leaving c) 0 (postings_before head table) removed_alone →
         o ≡ shown head table c.record_list removed_alone → Removes o
     halted :
-        removal_checks head table c ≡ Verdict.Passes → Halted c.strip (leaving c) 0 removed_alone →
+        removal_checks head table c ≡ Ok tt → Halted c.strip (leaving c) 0 removed_alone →
         o ≡ shown head table c.record_list removed_alone → Removes o
 
   pub removes : Removes (removal_of head table c)
@@ -200,8 +200,8 @@ module _ (head : Head) (table : List ℕ) (c : Call) where
   removes = go (removal_checks head table c) refl
     where
       go :
-          (v : Verdict) → removal_checks head table c ≡ v →
+          (v : Result Unit Failure) → removal_checks head table c ≡ v →
           Removes (unless_refused v (as_before head table c.record_list) (shown head table c.record_list removed_alone))
-      go (Verdict.Refused a) e = Removes.refused a e refl
-      go Verdict.Passes e =
-          ⊎_elim (λ k. Removes.cleared e k refl) (λ k. Removes.halted e k refl) (remove_runs c.strip (Answer.Accepted 0) (leaving c) 0 (postings_before head table))
+      go (Err a) e = Removes.refused a e refl
+      go (Ok _) e =
+          ⊎_elim (λ k. Removes.cleared e k refl) (λ k. Removes.halted e k refl) (remove_runs c.strip (Ok 0) (leaving c) 0 (postings_before head table))

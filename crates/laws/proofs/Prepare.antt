@@ -1,5 +1,6 @@
 -- Prepare over destinations that are all new: it is ready exactly where there is room for them all and every byte that it
 -- reads is 0; else it stops at one destination and takes back those before it.
+use Rattle.std.proofs.Common.{Ok, Err}
 use Prim.Native.Nat.{ℕ, suc, ◌+◌, ◌≤◌, ◌<◌}
 use native.Mathlib.Omega.{arith}
 use mathlib.Core.Path.{◌≡◌, refl, sym, ap, ◌∙◌}
@@ -12,8 +13,7 @@ use lib.Dec.{ltb}
 use borrow.Author.Tests.{ltb-true, ltb-false}
 use Rattle.strips.specs.Strips.{byte_at}
 use Rattle.rules.specs.declared.Posting.{Posting}
-use Rattle.rules.specs.declared.Answer.{Answer}
-use Rattle.rules.specs.declared.Verdict.{Verdict}
+use Rattle.rules.specs.declared.Failure.{Failure}
 use Rattle.rules.specs.Postings.{every, binding_below, same, present, inserted}
 use Rattle.rules.specs.Orders.{Numbered, postings_of}
 use Rattle.rules.specs.Publication.{undoing, Stage, why_not, not_inserted, preparing}
@@ -32,25 +32,25 @@ Fresh (d ∷ ds) ps = (present d.posting ps ≡ false) × Fresh ds (inserted d.p
 pub record Ready (capacity : ℕ) (strip : List ℕ) (ds done : List Numbered) (read : ℕ) (ps : List Posting) (s : Stage) : Type 0 where
   pub room : length ps + length ds ≤ capacity
   pub quiet : Quiet strip read (read + length ds)
-  pub answers : s.answer ≡ Answer.Accepted (length done + length ds)
+  pub answers : s.answer ≡ Ok (length done + length ds)
   pub leaves : s.postings ≡ added ds ps
   pub reads : s.read ≡ read + length ds
 
 -- why an insertion failed
-pub data Cause (byte used capacity change : ℕ) : Answer → Type 0 where
-  store : (byte ≡ 0 → ⊥) → Cause byte used capacity change (Answer.Store change)
-  full : byte ≡ 0 → used ≡ capacity → Cause byte used capacity change (Answer.Full change)
+pub data Cause (byte used capacity change : ℕ) : Failure → Type 0 where
+  store : (byte ≡ 0 → ⊥) → Cause byte used capacity change (Failure.Store change)
+  full : byte ≡ 0 → used ≡ capacity → Cause byte used capacity change (Failure.Full change)
 
 -- the postings put in were all taken out again
-pub record TakenBack (strip : List ℕ) (from to : ℕ) (base : List Posting) (why : Answer) (s : Stage) : Type 0 where
+pub record TakenBack (strip : List ℕ) (from to : ℕ) (base : List Posting) (why : Failure) (s : Stage) : Type 0 where
   pub quiet : Quiet strip from to
-  pub answers : s.answer ≡ why
+  pub answers : s.answer ≡ Err why
   pub leaves : s.postings ≡ base
 
 -- some could not be taken out
 pub record LeftBehind (strip : List ℕ) (from to change : ℕ) (base : List Posting) (s : Stage) : Type 0 where
   pub noisy : Noisy strip from to
-  pub answers : s.answer ≡ Answer.Undo change
+  pub answers : s.answer ≡ Err (Failure.Undo change)
   pub keeps : (p : Posting) → present p base ≡ true → present p s.postings ≡ true
 
 -- the insertion at `at` failed, and as many removals as were insertions followed
@@ -59,7 +59,7 @@ pub record Stopped (capacity : ℕ) (strip : List ℕ) (base : List Posting) (ds
   pub there : at < length ds
   pub quiet : Quiet strip read (read + at)
   pub room : used + at ≤ capacity
-  pub why : Answer
+  pub why : Failure
   pub cause : Cause (byte_at strip (read + at)) (used + at) capacity (number_at ds at) why
   pub undo : TakenBack strip (read + at + 1) (read + at + 1 + (before + at)) base why s ⊎ LeftBehind strip (read + at + 1) (read + at + 1 + (before + at)) (number_at ds at) base s
 
@@ -76,7 +76,7 @@ module _ (capacity : ℕ) (strip : List ℕ) (base : List Posting) where
       record {
         room = omega arith;
         quiet = quiet_none strip read (read + 0) (omega arith);
-        answers = let e : length done ≡ length done + 0 = omega arith in ap Answer.Accepted e;
+        answers = let e : length done ≡ length done + 0 = omega arith in ap Ok e;
         leaves = refl;
         reads = omega arith;
       }
@@ -91,7 +91,7 @@ module _ (capacity : ℕ) (strip : List ℕ) (base : List Posting) where
       record {
         room = let l = length_inserted d.posting ps k in let m = r.room in omega arith;
         quiet = quiet_cons strip read (read + suc (length ds)) h λ i j l. r.quiet i j (omega arith);
-        answers = r.answers ∙ ap Answer.Accepted e;
+        answers = r.answers ∙ ap Ok e;
         leaves = r.leaves;
         reads = let l = r.reads in omega arith;
       }
@@ -118,9 +118,9 @@ module _ (capacity : ℕ) (strip : List ℕ) (base : List Posting) where
       }
 
   stopped_here :
-      (why : Answer) (d : Numbered) (ds done : List Numbered) (read : ℕ) (ps : List Posting) → length ps ≤ capacity →
+      (why : Failure) (d : Numbered) (ds done : List Numbered) (read : ℕ) (ps : List Posting) → length ps ≤ capacity →
       Put base done ps → Cause (byte_at strip read) (length ps) capacity d.number why →
-      Stopped capacity strip base (d ∷ ds) (length done) read (length ps) (not_inserted why d.number (undoing strip done Verdict.Passes (read + 1) ps))
+      Stopped capacity strip base (d ∷ ds) (length done) read (length ps) (not_inserted why d.number (undoing strip done (Ok tt) (read + 1) ps))
   stopped_here why d ds done read ps h w c =
       let e : read + 0 ≡ read = omega arith in
       let u : length ps + 0 ≡ length ps = omega arith in
@@ -132,27 +132,27 @@ module _ (capacity : ℕ) (strip : List ℕ) (base : List Posting) where
         room = omega arith;
         why = why;
         cause = rw (e, u) c;
-        undo = rw (e, n) (⊎_elim (λ k. inl (back k)) (λ k. inr (left k)) (undo_runs strip done Verdict.Passes (read + 1) ps));
+        undo = rw (e, n) (⊎_elim (λ k. inl (back k)) (λ k. inr (left k)) (undo_runs strip done (Ok tt) (read + 1) ps));
       }
     where
       back :
-          UndoClean strip done Verdict.Passes (read + 1) ps (undoing strip done Verdict.Passes (read + 1) ps) →
-          TakenBack strip (read + 1) (read + 1 + length done) base why (not_inserted why d.number (undoing strip done Verdict.Passes (read + 1) ps))
+          UndoClean strip done (Ok tt) (read + 1) ps (undoing strip done (Ok tt) (read + 1) ps) →
+          TakenBack strip (read + 1) (read + 1 + length done) base why (not_inserted why d.number (undoing strip done (Ok tt) (read + 1) ps))
       back k =
           record {
             quiet = k.quiet;
-            answers = ap (λ v. why_not v why d.number) k.verdict;
+            answers = ap (λ v. Err (why_not v why d.number)) k.verdict;
             leaves = k.leaves ∙ put_back base done ps w;
           }
 
       left :
-          UndoFailed strip done (read + 1) (undoing strip done Verdict.Passes (read + 1) ps) →
-          LeftBehind strip (read + 1) (read + 1 + length done) d.number base (not_inserted why d.number (undoing strip done Verdict.Passes (read + 1) ps))
+          UndoFailed strip done (read + 1) (undoing strip done (Ok tt) (read + 1) ps) →
+          LeftBehind strip (read + 1) (read + 1 + length done) d.number base (not_inserted why d.number (undoing strip done (Ok tt) (read + 1) ps))
       left k =
           record {
             noisy = record { place = read + 1 + k.at; after = omega arith; below = let t = k.there in omega arith; fault = k.fault };
-            answers = ap (λ v. why_not v why d.number) k.verdict;
-            keeps = λ p m. (undo_removes strip done Verdict.Passes (read + 1) ps).kept p (put_other base done ps w p m).0 (put_other base done ps w p m).1;
+            answers = ap (λ v. Err (why_not v why d.number)) k.verdict;
+            keeps = λ p m. (undo_removes strip done (Ok tt) (read + 1) ps).kept p (put_other base done ps w p m).0 (put_other base done ps w p m).1;
           }
 
   pub prepare_runs :
@@ -176,16 +176,16 @@ module _ (capacity : ℕ) (strip : List ℕ) (base : List Posting) where
       go (inl b) (inr l) ih =
           let k = ltb-false (length ps) capacity l in
           rw (preparing_full strip d ds read ps capacity done b k)
-          (inr (stopped_here (Answer.Full d.number) d ds done read ps h w (full b (omega arith))))
+          (inr (stopped_here (Failure.Full d.number) d ds done read ps h w (full b (omega arith))))
       go (inr b) l ih =
           rw (preparing_store strip d ds read ps capacity done b)
-          (inr (stopped_here (Answer.Store d.number) d ds done read ps h w (store b)))
+          (inr (stopped_here (Failure.Store d.number) d ds done read ps h w (store b)))
 
 -- what holds after the next insertion, and after any undo, holds of prepare
 prepare_step :
     (P : Stage → Type 0) (capacity : ℕ) (strip : List ℕ) (d : Numbered) (ds done : List Numbered) (read : ℕ) (ps : List Posting) →
     (length ps < capacity → P (preparing capacity strip ds (d ∷ done) (read + 1) (inserted d.posting ps))) →
-    ((why : Answer) → P (not_inserted why d.number (undoing strip done Verdict.Passes (read + 1) ps))) →
+    ((why : Failure) → P (not_inserted why d.number (undoing strip done (Ok tt) (read + 1) ps))) →
     P (preparing capacity strip (d ∷ ds) done read ps)
 prepare_step P capacity strip d ds done read ps next back = go (byte_is (byte_at strip read)) (either (ltb (length ps) capacity))
   where
@@ -197,8 +197,8 @@ prepare_step P capacity strip d ds done read ps next back = go (byte_is (byte_at
         let k = ltb-true (length ps) capacity l in
         rw (preparing_clear strip d ds read ps capacity done b k) (next k)
     go (inl b) (inr l) =
-        rw (preparing_full strip d ds read ps capacity done b (ltb-false (length ps) capacity l)) (back (Answer.Full d.number))
-    go (inr b) l = rw (preparing_store strip d ds read ps capacity done b) (back (Answer.Store d.number))
+        rw (preparing_full strip d ds read ps capacity done b (ltb-false (length ps) capacity l)) (back (Failure.Full d.number))
+    go (inr b) l = rw (preparing_store strip d ds read ps capacity done b) (back (Failure.Store d.number))
 
 -- whatever the strip, nothing comes in but destinations
 pub prepare_inside :
@@ -213,7 +213,7 @@ prepare_inside capacity strip (d ∷ ds) done read ps p h =
     ∙ (sym (or_assoc (same p d.posting) (present p ps) (present p (postings_of ds)))
     ∙ (ap (λ b. b || present p (postings_of ds)) (sym (present_inserted p d.posting ps))
     ∙ prepare_inside capacity strip ds (d ∷ done) (read + 1) (inserted d.posting ps) p k)))
-    (λ why k. rw ((undo_removes strip done Verdict.Passes (read + 1) ps).inside p k))
+    (λ why k. rw ((undo_removes strip done (Ok tt) (read + 1) ps).inside p k))
     h
 
 -- and sound postings stay sound
@@ -229,4 +229,4 @@ prepare_sound n capacity strip (d ∷ ds) done read ps h s =
     prepare_sound n capacity strip ds (d ∷ done) (read + 1) (inserted d.posting ps)
     (and_elim_right (binding_below n d.posting) (every (binding_below n) (postings_of ds)) h)
     (sound_inserted n capacity d.posting ps (and_elim_left (binding_below n d.posting) (every (binding_below n) (postings_of ds)) h) l s))
-    (λ why. undo_sound n capacity strip done Verdict.Passes (read + 1) ps s)
+    (λ why. undo_sound n capacity strip done (Ok tt) (read + 1) ps s)

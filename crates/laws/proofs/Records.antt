@@ -1,4 +1,5 @@
 -- The record of a change list: the ascending numbers of its destinations, which rollback takes and understands.
+use Rattle.std.proofs.Common.{Option, Some, None, Ok, ℕ}
 use Prim.Native.Nat.{ℕ, zero, suc, ◌+◌, ◌≤◌, ◌<◌}
 use native.Mathlib.Nat.{zero-add}
 use native.Mathlib.Omega.{arith}
@@ -10,9 +11,7 @@ use lib.ListN.{length, get_or}
 use lib.Dec.{eqb, leb, leb-suc-suc}
 use borrow.Author.Tests.{leb-true, eq-eqb, ne_eqb, lt-ltb, le-leb, le-ltb}
 use Rattle.rules.specs.declared.Posting.{Posting}
-use Rattle.rules.specs.declared.Key.{Key}
 use Rattle.rules.specs.declared.Change.{Change}
-use Rattle.rules.specs.declared.Verdict.{Verdict}
 use Rattle.rules.specs.Postings.{same, present, inserted}
 use Rattle.rules.specs.Orders.{Numbered, named, destination_of, source_of, destinations_from, sources_from, destinations, sources, change_numbers, postings_of, no_change, recorded}
 use Rattle.rules.specs.Checks.{is_named, recordable, record_from}
@@ -50,12 +49,12 @@ recorded_from all i [] b = refl
 recorded_from all i (c ∷ cs) b = go (destination_of c) refl (recorded_from all (i + 1) cs (behind_rest all i c cs b))
   where
     go :
-        (k : Key) → destination_of c ≡ k → recorded all (change_numbers (destinations_from (i + 1) cs)) ≡ destinations_from (i + 1) cs →
+        (k : Option ℕ) → destination_of c ≡ k → recorded all (change_numbers (destinations_from (i + 1) cs)) ≡ destinations_from (i + 1) cs →
         recorded all (change_numbers (named i c k (destinations_from (i + 1) cs))) ≡ named i c k (destinations_from (i + 1) cs)
-    go Key.Missing e ih = ih
-    go (Key.Named key) e ih =
+    go None e ih = ih
+    go (Some key) e ih =
         ap (λ (x : Change). named i x (destination_of x) (recorded all (change_numbers (destinations_from (i + 1) cs)))) (behind_here all i c cs b)
-        ∙ (ap (λ k. named i c k (recorded all (change_numbers (destinations_from (i + 1) cs)))) e ∙ ap (λ l. named i c (Key.Named key) l) ih)
+        ∙ (ap (λ k. named i c k (recorded all (change_numbers (destinations_from (i + 1) cs)))) e ∙ ap (λ l. named i c (Some key) l) ih)
 
 pub recorded_numbers : (cs : List Change) → recorded cs (change_numbers (destinations cs)) ≡ destinations cs
 recorded_numbers cs = recorded_from cs 0 cs (behind_all cs)
@@ -69,11 +68,11 @@ rising_later low high (n ∷ ns) h r =
     and_intro (le-leb low n (omega arith)) (and_elim_right (leb high n) (rising (n + 1) ns) r)
 
 rising_named :
-    (i : ℕ) (c : Change) (k : Key) (others : List Numbered) → rising (i + 1) (change_numbers others) ≡ true →
+    (i : ℕ) (c : Change) (k : Option ℕ) (others : List Numbered) → rising (i + 1) (change_numbers others) ≡ true →
     rising i (change_numbers (named i c k others)) ≡ true
 unfolding rising
-rising_named i c Key.Missing others h = rising_later i (i + 1) (change_numbers others) (omega arith) h
-rising_named i c (Key.Named key) others h = and_intro (le-leb i i (omega arith)) h
+rising_named i c None others h = rising_later i (i + 1) (change_numbers others) (omega arith) h
+rising_named i c (Some key) others h = and_intro (le-leb i i (omega arith)) h
 
 rising_from : (i : ℕ) (cs : List Change) → rising i (change_numbers (destinations_from i cs)) ≡ true
 unfolding destinations_from rising
@@ -118,19 +117,19 @@ unfolding destinations_from among
 among_from i [] j = sym (recordable_none j)
 among_from i (c ∷ cs) zero = go (destination_of c) ∙ sym (recordable_first c cs)
   where
-    go : (k : Key) → among (i + 0) (change_numbers (named i c k (destinations_from (i + 1) cs))) ≡ is_named k
-    go Key.Missing = among_below (i + 0) (i + 1) (change_numbers (destinations_from (i + 1) cs)) (omega arith) (rising_from (i + 1) cs)
-    go (Key.Named key) = rw (eq-eqb (i + 0) i (omega arith))
+    go : (k : Option ℕ) → among (i + 0) (change_numbers (named i c k (destinations_from (i + 1) cs))) ≡ is_named k
+    go None = among_below (i + 0) (i + 1) (change_numbers (destinations_from (i + 1) cs)) (omega arith) (rising_from (i + 1) cs)
+    go (Some key) = rw (eq-eqb (i + 0) i (omega arith))
 among_from i (c ∷ cs) (suc j) = go (destination_of c) (among_from (i + 1) cs j) ∙ sym (recordable_next c cs j)
   where
     go :
-        (k : Key) → among (i + 1 + j) (change_numbers (destinations_from (i + 1) cs)) ≡ recordable cs j →
+        (k : Option ℕ) → among (i + 1 + j) (change_numbers (destinations_from (i + 1) cs)) ≡ recordable cs j →
         among (i + suc j) (change_numbers (named i c k (destinations_from (i + 1) cs))) ≡ recordable cs j
-    go Key.Missing ih = let e : i + suc j ≡ i + 1 + j = omega arith in rw e ih
-    go (Key.Named key) ih =
+    go None ih = let e : i + suc j ≡ i + 1 + j = omega arith in rw e ih
+    go (Some key) ih =
         let e : i + suc j ≡ i + 1 + j = omega arith in
         let n : eqb (i + 1 + j) i ≡ false = ne_eqb (i + 1 + j) i (λ k. omega arith) in
-        let there = change_numbers (named i c (Key.Named key) (destinations_from (i + 1) cs)) in
+        let there = change_numbers (named i c (Some key) (destinations_from (i + 1) cs)) in
         subst (λ (m : ℕ). among m there ≡ recordable cs j) (sym e) (rw n ih)
 
 pub among_numbers : (cs : List Change) (j : ℕ) → among j (change_numbers (destinations cs)) ≡ recordable cs j
@@ -140,7 +139,7 @@ among_numbers cs j = ap (λ n. among n (change_numbers (destinations cs))) (sym 
 pub recordable_numbers :
     (cs : List Change) (ns : List ℕ) → ((n : ℕ) → among n ns ≡ true → recordable cs n ≡ true) →
     (place low : ℕ) (earlier : List ℕ) → ((n : ℕ) → low ≤ n → among n earlier ≡ false) → rising low ns ≡ true →
-    record_from place cs earlier ns ≡ Verdict.Passes
+    record_from place cs earlier ns ≡ Ok tt
 unfolding record_from among rising
 recordable_numbers cs [] f place low earlier g r = refl
 recordable_numbers cs (n ∷ ns) f place low earlier g r =
@@ -150,7 +149,7 @@ recordable_numbers cs (n ∷ ns) f place low earlier g r =
     (λ m h. neither (eqb m n) (among m earlier) (ne_eqb m n (λ e. omega arith)) (g m (omega arith)))
     (and_elim_right (leb low n) (rising (n + 1) ns) r))
 
-pub record_taken : (cs : List Change) → record_from 0 cs [] (change_numbers (destinations cs)) ≡ Verdict.Passes
+pub record_taken : (cs : List Change) → record_from 0 cs [] (change_numbers (destinations cs)) ≡ Ok tt
 unfolding among
 record_taken cs =
     recordable_numbers cs (change_numbers (destinations cs)) (λ n h. sym (among_numbers cs n) ∙ h) 0 0 [] (λ n h. refl) (rising_numbers cs)

@@ -1,4 +1,5 @@
 -- Source removal: clear exactly where every byte that it reads is 0; else it stops at the first other byte.
+use Rattle.std.proofs.Common.{Result, Err, ℕ}
 use Prim.Native.Nat.{ℕ, suc, ◌+◌, ◌<◌}
 use native.Mathlib.Omega.{arith}
 use mathlib.Core.Path.{◌≡◌, refl}
@@ -7,7 +8,7 @@ use mathlib.Core.Logic.{◌⊎◌, inl, inr, ⊎_elim}
 use lib.ListN.{length}
 use Rattle.strips.specs.Strips.{byte_at}
 use Rattle.rules.specs.declared.Posting.{Posting}
-use Rattle.rules.specs.declared.Answer.{Answer}
+use Rattle.rules.specs.declared.Failure.{Failure}
 use Rattle.rules.specs.Postings.{removed}
 use Rattle.rules.specs.Orders.{Numbered, postings_of}
 use Rattle.rules.specs.Storage.{removal}
@@ -18,7 +19,7 @@ use Rattle.laws.proofs.Flat.{Sound}
 use Rattle.laws.proofs.Steps.{removing_clear, removing_fails, removed_only_then, removed_only_same, sound_removal}
 use Rattle.laws.proofs.Undo.{byte_is, quiet_cons, quiet_none}
 
-pub record Cleared (strip : List ℕ) (clear : Answer) (items : List Numbered) (read : ℕ) (ps : List Posting) (s : Stage) : Type 0 where
+pub record Cleared (strip : List ℕ) (clear : Result ℕ Failure) (items : List Numbered) (read : ℕ) (ps : List Posting) (s : Stage) : Type 0 where
   pub quiet : Quiet strip read (read + length items)
   pub answers : s.answer ≡ clear
   pub leaves : s.postings ≡ taken_away items ps
@@ -28,9 +29,9 @@ pub record Halted (strip : List ℕ) (items : List Numbered) (read : ℕ) (s : S
   pub there : at < length items
   pub quiet : Quiet strip read (read + at)
   pub fault : byte_at strip (read + at) ≡ 0 → ⊥
-  pub answers : s.answer ≡ Answer.Source (number_at items at)
+  pub answers : s.answer ≡ Err (Failure.Source (number_at items at))
 
-module _ (strip : List ℕ) (clear : Answer) where
+module _ (strip : List ℕ) (clear : Result ℕ Failure) where
   cleared_none : (read : ℕ) (ps : List Posting) → Cleared strip clear [] read ps (removing strip clear [] read ps)
   unfolding removing taken_away
   cleared_none read ps = record { quiet = quiet_none strip read (read + 0) (omega arith); answers = refl; leaves = refl }
@@ -61,7 +62,7 @@ module _ (strip : List ℕ) (clear : Answer) where
 
   halted_here :
       (d : Numbered) (ds : List Numbered) (read : ℕ) (l : List Posting) → (byte_at strip read ≡ 0 → ⊥) →
-      Halted strip (d ∷ ds) read (record { answer = Answer.Source d.number; postings = l; read = read + 1 })
+      Halted strip (d ∷ ds) read (record { answer = Err (Failure.Source d.number); postings = l; read = read + 1 })
   halted_here d ds read l h =
       let e : read + 0 ≡ read = omega arith in
       record { at = 0; there = omega arith; quiet = quiet_none strip read (read + 0) (omega arith); fault = rw e h; answers = refl }

@@ -2,19 +2,19 @@
 -- they ascend. So their number is the number of such postings.
 use Prim.Native.Nat.{ℕ, ◌+◌, ◌<◌}
 use native.Mathlib.Omega.{arith}
-use mathlib.Core.Path.{◌≡◌, refl, sym, ap, ◌∙◌}
+use mathlib.Core.Path.{◌≡◌, refl, sym, ◌∙◌}
 use mathlib.Core.List.{List, [], ◌∷◌}
-use mathlib.Core.Bool.{Bool, true, false, cond, ◌&&◌, ◌||◌}
+use mathlib.Core.Bool.{Bool, true, false, cond, ◌&&◌, ◌||◌, and_assoc}
 use mathlib.Mathlib.Data.Bool.Basic.{and_elim_left, and_elim_right, and_intro}
 use lib.Dec.{eqb}
-use borrow.Author.Tests.{eqb-true, eq-eqb, le-leb}
+use borrow.Author.Tests.{eqb-true, le-leb}
 use Rattle.rules.specs.declared.Posting.{Posting}
-use Rattle.rules.specs.declared.Order.{Order}
+use Rattle.std.specs.declared.cmp.Ordering.{Ordering}
 use Rattle.rules.specs.Postings.{ranked, compared, same, chain, ascending, present, rows_under}
 use Rattle.lent_lists.specs.Among.{among}
 use Rattle.laws.specs.Words.{rising}
-use Rattle.booleans.proofs.Tests.{impossible, Tri, less, equal, more, tri, equal_tests}
-use Rattle.laws.proofs.Ranks.{ranked_equal, ranked_more, same_equal, same_self}
+use Rattle.booleans.proofs.Tests.{impossible, Tri, less, equal, more, tri}
+use Rattle.laws.proofs.Ranks.{ranked_equal, ranked_more, derived_equality}
 use Rattle.laws.proofs.Sorted.{chain_before, chain_rest, chain_skip, ascending_rest}
 
 abbrev pub at : ℕ → ℕ → ℕ → Posting
@@ -25,23 +25,7 @@ same_numbers :
     (binding key row : ℕ) (q : Posting) →
     same (at binding key row) q ≡ ((eqb binding q.binding && eqb key q.key) && eqb row q.row)
 same_numbers binding key row q =
-    equal_tests (same (at binding key row) q) ((eqb binding q.binding && eqb key q.key) && eqb row q.row) there back
-  where
-    there : same (at binding key row) q ≡ true → ((eqb binding q.binding && eqb key q.key) && eqb row q.row) ≡ true
-    there h =
-        let e = same_equal (at binding key row) q h in
-        and_intro
-        (and_intro (eq-eqb binding q.binding (ap (λ (p : Posting). p.binding) e))
-        (eq-eqb key q.key (ap (λ (p : Posting). p.key) e)))
-        (eq-eqb row q.row (ap (λ (p : Posting). p.row) e))
-
-    back : ((eqb binding q.binding && eqb key q.key) && eqb row q.row) ≡ true → same (at binding key row) q ≡ true
-    back h =
-        let x = and_elim_left (eqb binding q.binding && eqb key q.key) (eqb row q.row) h in
-        let b = eqb-true binding q.binding (and_elim_left (eqb binding q.binding) (eqb key q.key) x) in
-        let k = eqb-true key q.key (and_elim_right (eqb binding q.binding) (eqb key q.key) x) in
-        let r = eqb-true row q.row (and_elim_right (eqb binding q.binding && eqb key q.key) (eqb row q.row) h) in
-        rw (b, k, r) (same_self q)
+    sym (and_assoc (eqb binding q.binding) (eqb key q.key) (eqb row q.row) ∙ derived_equality (at binding key row) q)
 
 pub rows_among :
     (binding key row : ℕ) (ps : List Posting) → among row (rows_under binding key ps) ≡ present (at binding key row) ps
@@ -60,20 +44,20 @@ rows_among binding key row (q ∷ qs) =
 
 -- of two postings of one binding and key the earlier has the lower row
 before_row :
-    (p q : Posting) → compared p q ≡ Order.Before → p.binding ≡ q.binding → p.key ≡ q.key → p.row < q.row
+    (p q : Posting) → compared p q ≡ Ordering.Less → p.binding ≡ q.binding → p.key ≡ q.key → p.row < q.row
 unfolding compared
 before_row p q h b k = go (tri p.row q.row)
   where
-    rows : ranked p.row q.row Order.Same ≡ Order.Before
+    rows : ranked p.row q.row Ordering.Equal ≡ Ordering.Less
     rows =
         sym (ranked_equal p.key q.key _ k) ∙ (sym (ranked_equal p.binding q.binding _ b) ∙ h)
 
     go : Tri p.row q.row → p.row < q.row
     go (less l) = l
     go (equal e) =
-        impossible (cc (ranked_equal p.row q.row Order.Same e, rows))
+        impossible (cc (ranked_equal p.row q.row Ordering.Equal e, rows))
     go (more m) =
-        impossible (cc (ranked_more p.row q.row Order.Same m, rows))
+        impossible (cc (ranked_more p.row q.row Ordering.Equal m, rows))
 
 rising_after :
     (binding key : ℕ) (p : Posting) (ps : List Posting) → binding ≡ p.binding → key ≡ p.key → chain p ps ≡ true →

@@ -1,4 +1,5 @@
 -- One step by the next byte: what an insertion and a removal leave, and how undo, prepare and source removal go on from there.
+use Rattle.std.proofs.Common.{Some, None, Result, Ok, Err, ℕ}
 use Prim.Native.Nat.{ℕ, ◌+◌, ◌≤◌, ◌<◌}
 use native.Mathlib.Omega.{arith}
 use mathlib.Core.Path.{◌≡◌, refl, sym, ◌∙◌}
@@ -12,8 +13,7 @@ use borrow.Author.Tests.{eq-eqb, ne_eqb, lt-ltb, le-ltb}
 use Rattle.strips.specs.Strips.{byte_at}
 use Rattle.rules.specs.declared.Posting.{Posting}
 use Rattle.rules.specs.declared.Fault.{Fault}
-use Rattle.rules.specs.declared.Answer.{Answer}
-use Rattle.rules.specs.declared.Verdict.{Verdict}
+use Rattle.rules.specs.declared.Failure.{Failure}
 use Rattle.rules.specs.Postings.{binding_below, same, present, inserted, removed}
 use Rattle.rules.specs.Orders.{Numbered}
 use Rattle.rules.specs.Storage.{insertion, Removal, removal}
@@ -55,44 +55,44 @@ removal_leaves byte p ps =
 
 pub insertion_clear :
     (byte capacity : ℕ) (p : Posting) (ps : List Posting) → byte ≡ 0 → length ps < capacity →
-    insertion byte capacity p ps ≡ record { fault = Fault.Nothing; postings = inserted p ps }
+    insertion byte capacity p ps ≡ record { fault = None; postings = inserted p ps }
 unfolding insertion
 insertion_clear byte capacity p ps h k = rw (eq-eqb byte 0 h, lt-ltb (length ps) capacity k)
 
 pub insertion_full :
     (byte capacity : ℕ) (p : Posting) (ps : List Posting) → byte ≡ 0 → capacity ≤ length ps →
-    insertion byte capacity p ps ≡ record { fault = Fault.Full; postings = ps }
+    insertion byte capacity p ps ≡ record { fault = (Some Fault.Full); postings = ps }
 unfolding insertion
 insertion_full byte capacity p ps h k = rw (eq-eqb byte 0 h, le-ltb (length ps) capacity k)
 
 pub insertion_store :
     (byte capacity : ℕ) (p : Posting) (ps : List Posting) → (byte ≡ 0 → ⊥) →
-    insertion byte capacity p ps ≡ record { fault = Fault.Store; postings = ps }
+    insertion byte capacity p ps ≡ record { fault = (Some Fault.Store); postings = ps }
 unfolding insertion
 insertion_store byte capacity p ps h = rw (ne_eqb byte 0 h)
 
 module _ (strip : List ℕ) (d : Numbered) (ds : List Numbered) (read : ℕ) (ps : List Posting) where
   pub undoing_clear :
-      (v : Verdict) → byte_at strip read ≡ 0 →
+      (v : Result Unit Failure) → byte_at strip read ≡ 0 →
       undoing strip (d ∷ ds) v read ps ≡ undoing strip ds v (read + 1) (removed d.posting ps)
   unfolding undoing
   undoing_clear v h = rw (removal_clear (byte_at strip read) d.posting ps h)
 
   pub undoing_fails :
-      (v : Verdict) → (byte_at strip read ≡ 0 → ⊥) →
-      undoing strip (d ∷ ds) v read ps ≡ undoing strip ds (Verdict.Refused (Answer.Undo d.number)) (read + 1) (removal (byte_at strip read) d.posting ps).postings
+      (v : Result Unit Failure) → (byte_at strip read ≡ 0 → ⊥) →
+      undoing strip (d ∷ ds) v read ps ≡ undoing strip ds (Err (Failure.Undo d.number)) (read + 1) (removal (byte_at strip read) d.posting ps).postings
   unfolding undoing
   undoing_fails v h = rw (removal_fails (byte_at strip read) d.posting ps h)
 
   pub removing_clear :
-      (a : Answer) → byte_at strip read ≡ 0 →
+      (a : Result ℕ Failure) → byte_at strip read ≡ 0 →
       removing strip a (d ∷ ds) read ps ≡ removing strip a ds (read + 1) (removed d.posting ps)
   unfolding removing
   removing_clear a h = rw (removal_clear (byte_at strip read) d.posting ps h)
 
   pub removing_fails :
-      (a : Answer) → (byte_at strip read ≡ 0 → ⊥) →
-      removing strip a (d ∷ ds) read ps ≡ record { answer = Answer.Source d.number; postings = (removal (byte_at strip read) d.posting ps).postings; read = read + 1 }
+      (a : Result ℕ Failure) → (byte_at strip read ≡ 0 → ⊥) →
+      removing strip a (d ∷ ds) read ps ≡ record { answer = Err (Failure.Source d.number); postings = (removal (byte_at strip read) d.posting ps).postings; read = read + 1 }
   unfolding removing
   removing_fails a h = rw (removal_fails (byte_at strip read) d.posting ps h)
 
@@ -104,13 +104,13 @@ module _ (strip : List ℕ) (d : Numbered) (ds : List Numbered) (read : ℕ) (ps
 
   pub preparing_full :
       (capacity : ℕ) (done : List Numbered) → byte_at strip read ≡ 0 → capacity ≤ length ps →
-      preparing capacity strip (d ∷ ds) done read ps ≡ not_inserted (Answer.Full d.number) d.number (undoing strip done Verdict.Passes (read + 1) ps)
+      preparing capacity strip (d ∷ ds) done read ps ≡ not_inserted (Failure.Full d.number) d.number (undoing strip done (Ok tt) (read + 1) ps)
   unfolding preparing
   preparing_full capacity done h k = rw (insertion_full (byte_at strip read) capacity d.posting ps h k)
 
   pub preparing_store :
       (capacity : ℕ) (done : List Numbered) → (byte_at strip read ≡ 0 → ⊥) →
-      preparing capacity strip (d ∷ ds) done read ps ≡ not_inserted (Answer.Store d.number) d.number (undoing strip done Verdict.Passes (read + 1) ps)
+      preparing capacity strip (d ∷ ds) done read ps ≡ not_inserted (Failure.Store d.number) d.number (undoing strip done (Ok tt) (read + 1) ps)
   unfolding preparing
   preparing_store capacity done h = rw (insertion_store (byte_at strip read) capacity d.posting ps h)
 

@@ -1,5 +1,6 @@
 -- A run of undo removals: clean exactly where every byte that it reads is 0; else refused with the last change whose removal
 -- failed. It goes through the whole list either way.
+use Rattle.std.proofs.Common.{Result, Err}
 use Prim.Native.Nat.{ℕ, suc, ◌+◌, ◌≤◌, ◌<◌}
 use native.Mathlib.Omega.{arith}
 use mathlib.Core.Path.{◌≡◌, refl}
@@ -12,8 +13,7 @@ use borrow.Author.Tests.{eqb-true, eqb-false}
 use Rattle.strips.specs.Strips.{byte_at}
 use Rattle.strips.proofs.Walk.{stretch_one, stretch_join}
 use Rattle.rules.specs.declared.Posting.{Posting}
-use Rattle.rules.specs.declared.Answer.{Answer}
-use Rattle.rules.specs.declared.Verdict.{Verdict}
+use Rattle.rules.specs.declared.Failure.{Failure}
 use Rattle.rules.specs.Postings.{same, present, inserted, removed}
 use Rattle.rules.specs.Orders.{Numbered, postings_of}
 use Rattle.rules.specs.Storage.{removal}
@@ -48,7 +48,7 @@ quiet_none strip from to h i k l = absurd (omega arith)
 pub not_quiet : (strip : List ℕ) (from to : ℕ) → Noisy strip from to → Quiet strip from to → ⊥
 not_quiet strip from to n q = n.fault (q n.place n.after n.below)
 
-pub record UndoClean (strip : List ℕ) (items : List Numbered) (v : Verdict) (read : ℕ) (ps : List Posting) (u : Undone) : Type 0 where
+pub record UndoClean (strip : List ℕ) (items : List Numbered) (v : Result Unit Failure) (read : ℕ) (ps : List Posting) (u : Undone) : Type 0 where
   pub quiet : Quiet strip read (read + length items)
   pub verdict : u.verdict ≡ v
   pub leaves : u.postings ≡ taken_away items ps
@@ -60,12 +60,12 @@ pub record UndoFailed (strip : List ℕ) (items : List Numbered) (read : ℕ) (u
   pub there : at < length items
   pub fault : byte_at strip (read + at) ≡ 0 → ⊥
   pub last : Quiet strip (read + at + 1) (read + length items)
-  pub verdict : u.verdict ≡ Verdict.Refused (Answer.Undo (number_at items at))
+  pub verdict : u.verdict ≡ Err (Failure.Undo (number_at items at))
   pub reads : u.read ≡ read + length items
 
 module _ (strip : List ℕ) (d : Numbered) (ds : List Numbered) (read : ℕ) (u : Undone) where
   clean_cons :
-      (v : Verdict) (ps : List Posting) → byte_at strip read ≡ 0 → UndoClean strip ds v (read + 1) (removed d.posting ps) u →
+      (v : Result Unit Failure) (ps : List Posting) → byte_at strip read ≡ 0 → UndoClean strip ds v (read + 1) (removed d.posting ps) u →
       UndoClean strip (d ∷ ds) v read ps u
   unfolding taken_away
   clean_cons v ps h c =
@@ -90,7 +90,7 @@ module _ (strip : List ℕ) (d : Numbered) (ds : List Numbered) (read : ℕ) (u 
 
   failed_here :
       (l : List Posting) → (byte_at strip read ≡ 0 → ⊥) →
-      UndoClean strip ds (Verdict.Refused (Answer.Undo d.number)) (read + 1) l u → UndoFailed strip (d ∷ ds) read u
+      UndoClean strip ds (Err (Failure.Undo d.number)) (read + 1) l u → UndoFailed strip (d ∷ ds) read u
   failed_here l h c =
       let e : read + 0 ≡ read = omega arith in
       record {
@@ -103,23 +103,23 @@ module _ (strip : List ℕ) (d : Numbered) (ds : List Numbered) (read : ℕ) (u 
       }
 
 undo_none :
-    (strip : List ℕ) (v : Verdict) (read : ℕ) (ps : List Posting) → UndoClean strip [] v read ps (undoing strip [] v read ps)
+    (strip : List ℕ) (v : Result Unit Failure) (read : ℕ) (ps : List Posting) → UndoClean strip [] v read ps (undoing strip [] v read ps)
 unfolding undoing taken_away
 undo_none strip v read ps =
     record { quiet = quiet_none strip read (read + 0) (omega arith); verdict = refl; leaves = refl; reads = omega arith }
 
 pub undo_runs :
-    (strip : List ℕ) (items : List Numbered) (v : Verdict) (read : ℕ) (ps : List Posting) →
+    (strip : List ℕ) (items : List Numbered) (v : Result Unit Failure) (read : ℕ) (ps : List Posting) →
     UndoClean strip items v read ps (undoing strip items v read ps) ⊎ UndoFailed strip items read (undoing strip items v read ps)
 undo_runs strip [] v read ps = inl (undo_none strip v read ps)
 undo_runs strip (d ∷ ds) v read ps = go (byte_is (byte_at strip read)) (undo_runs strip ds)
   where
-    Runs : List Numbered → Verdict → ℕ → List Posting → Undone → Type 0
+    Runs : List Numbered → Result Unit Failure → ℕ → List Posting → Undone → Type 0
     Runs items w r l u = UndoClean strip items w r l u ⊎ UndoFailed strip items r u
 
     go :
         (byte_at strip read ≡ 0) ⊎ (byte_at strip read ≡ 0 → ⊥) →
-        ((w : Verdict) (r : ℕ) (l : List Posting) → Runs ds w r l (undoing strip ds w r l)) →
+        ((w : Result Unit Failure) (r : ℕ) (l : List Posting) → Runs ds w r l (undoing strip ds w r l)) →
         Runs (d ∷ ds) v read ps (undoing strip (d ∷ ds) v read ps)
     go (inl h) ih =
         rw (undoing_clear strip d ds read ps v h)
@@ -128,11 +128,11 @@ undo_runs strip (d ∷ ds) v read ps = go (byte_is (byte_at strip read)) (undo_r
     go (inr h) ih =
         rw (undoing_fails strip d ds read ps v h)
         (⊎_elim (λ c. inr (failed_here strip d ds read _ _ h c)) (λ f. inr (failed_cons strip d ds read _ f))
-        (ih (Verdict.Refused (Answer.Undo d.number)) (read + 1) (removal (byte_at strip read) d.posting ps).postings))
+        (ih (Err (Failure.Undo d.number)) (read + 1) (removal (byte_at strip read) d.posting ps).postings))
 
 -- whatever the strip, it takes away nothing but its own postings, and sound postings stay sound
 pub undo_removes :
-    (strip : List ℕ) (items : List Numbered) (v : Verdict) (read : ℕ) (ps : List Posting) →
+    (strip : List ℕ) (items : List Numbered) (v : Result Unit Failure) (read : ℕ) (ps : List Posting) →
     RemovedOnly ps (undoing strip items v read ps).postings (postings_of items)
 unfolding undoing
 undo_removes strip [] v read ps = removed_only_same ps []
@@ -141,7 +141,7 @@ undo_removes strip (d ∷ ds) v read ps =
     (undo_removes strip ds _ (read + 1) (removal (byte_at strip read) d.posting ps).postings)
 
 pub undo_sound :
-    (n size : ℕ) (strip : List ℕ) (items : List Numbered) (v : Verdict) (read : ℕ) (ps : List Posting) → Sound n size ps →
+    (n size : ℕ) (strip : List ℕ) (items : List Numbered) (v : Result Unit Failure) (read : ℕ) (ps : List Posting) → Sound n size ps →
     Sound n size (undoing strip items v read ps).postings
 unfolding undoing
 undo_sound n size strip [] v read ps s = s

@@ -1,9 +1,8 @@
 -- What the checks name, told by places of their lists: the first change, destination, source, pair or place that is bad.
-use Rattle.std.specs.Prelude.{ℕ, ◌+◌, ◌<◌, ◌≡◌, List, Bool, true, false, ◌⊎◌, length, get_or}
+use Rattle.std.specs.Prelude.{ℕ, ◌+◌, ◌<◌, ◌≡◌, List, Bool, true, false, ◌⊎◌, length, get_or, Result, Ok, Err}
 use Rattle.rules.specs.declared.Change.{Change}
 use Rattle.rules.specs.declared.Guard.{Guard}
-use Rattle.rules.specs.declared.Answer.{Answer}
-use Rattle.rules.specs.declared.Verdict.{Verdict}
+use Rattle.rules.specs.declared.Failure.{Failure}
 use Rattle.rules.specs.Postings.{same}
 use Rattle.rules.specs.Orders.{Numbered}
 use Rattle.laws.specs.Words.{nowhere, number_at}
@@ -16,7 +15,7 @@ pub record FirstAt {A : Type 0} (test : A → Bool) (none : A) (xs : List A) (k 
   pub before : (i : ℕ) → i < k → test (get_or xs i none) ≡ true
 
 -- that element is the one named
-pub record NamesFirst {A : Type 0} (none : A) (test : A → Bool) (answer : ℕ → A → Answer) (i : ℕ) (xs : List A) (a : Answer) : Type 0 where
+pub record NamesFirst {A : Type 0} (none : A) (test : A → Bool) (answer : ℕ → A → Failure) (i : ℕ) (xs : List A) (a : Failure) : Type 0 where
   pub at : ℕ
   pub first : FirstAt test none xs at
   pub names : a ≡ answer (i + at) (get_or xs at none)
@@ -38,11 +37,11 @@ pub record FirstPair (ds : List Numbered) (i j : ℕ) : Type 0 where
   pub before : (l m : ℕ) → l < m → m < j → twins ds l m ≡ false
 
 -- that pair is the one named
-pub record NamesPair (ds : List Numbered) (a : Answer) : Type 0 where
+pub record NamesPair (ds : List Numbered) (a : Failure) : Type 0 where
   pub i : ℕ
   pub j : ℕ
   pub first : FirstPair ds i j
-  pub names : a ≡ Answer.Twice (number_at ds i) (number_at ds j)
+  pub names : a ≡ Failure.Twice (number_at ds i) (number_at ds j)
 
 -- the number at place k stands at an earlier place already
 pub record Repeated (ns : List ℕ) (k : ℕ) : Type 0 where
@@ -57,10 +56,10 @@ pub record FirstBad (cs : List Change) (ns : List ℕ) (k : ℕ) : Type 0 where
   pub before : (i : ℕ) → i < k → (recordable cs (get_or ns i 0) ≡ true) × (Repeated ns i → ⊥)
 
 -- that place is the one named
-pub record NamesBad (cs : List Change) (ns : List ℕ) (a : Answer) : Type 0 where
+pub record NamesBad (cs : List Change) (ns : List ℕ) (a : Failure) : Type 0 where
   pub at : ℕ
   pub first : FirstBad cs ns at
-  pub names : a ≡ Answer.Record at
+  pub names : a ≡ Failure.Record at
 
 -- no guard: what stands past the end of their list
 abbrev pub no_guard : Guard
@@ -74,8 +73,8 @@ pub record Holder (binding key : ℕ) (gs : List Guard) : Type 0 where
   pub keys : (get_or gs at no_guard).key ≡ key
 
 -- the first verdict that refuses
-pub record RefusedAt (vs : List Verdict) (a : Answer) : Type 0 where
+pub record RefusedAt (vs : List (Result Unit Failure)) (a : Failure) : Type 0 where
   pub at : ℕ
   pub there : at < length vs
-  pub refuses : get_or vs at Verdict.Passes ≡ Verdict.Refused a
-  pub before : (i : ℕ) → i < at → get_or vs i Verdict.Passes ≡ Verdict.Passes
+  pub refuses : get_or vs at (Ok tt) ≡ Err a
+  pub before : (i : ℕ) → i < at → get_or vs i (Ok tt) ≡ Ok tt

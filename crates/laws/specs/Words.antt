@@ -1,10 +1,10 @@
 -- The words in which the laws speak of a call, without its steps: what it finds, what destinations and sources come to, the bytes
 -- that are read, and what a change of a set may take away.
-use Rattle.std.specs.Prelude.{ℕ, ◌+◌, ◌<◌, ◌≤◌, ◌≡◌, List, [], ◌∷◌, Bool, true, false, cond, ◌&&◌, ◌||◌, length, get_or, eqb, leb}
+use Rattle.std.specs.Prelude.{ℕ, ◌+◌, ◌<◌, ◌≤◌, ◌≡◌, List, [], ◌∷◌, Bool, true, false, cond, ◌&&◌, ◌||◌, length, get_or, eqb, leb, Result, Err}
 use Rattle.strips.specs.Strips.{byte_at}
 use Rattle.rules.specs.declared.Posting.{Posting}
 use Rattle.rules.specs.declared.Head.{Head}
-use Rattle.rules.specs.declared.Answer.{Answer}
+use Rattle.rules.specs.declared.Failure.{Failure}
 use Rattle.rules.specs.Answers.{Class, class_of, refuses, changes_nothing, poisons}
 use Rattle.rules.specs.Postings.{present, inserted, removed}
 use Rattle.rules.specs.Orders.{Numbered, Call}
@@ -61,11 +61,11 @@ class_of_number n =
     (cond (eqb n 10 || eqb n 11) Class.undone (cond (eqb n 12 || eqb n 13) Class.broken Class.refused))
 
 -- 1 to 9 and 14: what a check refuses with
-abbrev pub is_refusal : Answer → Bool
+abbrev pub is_refusal : Result ℕ Failure → Bool
 is_refusal a = refuses (class_of a)
 
 -- 1 to 11 and 14: the answers that leave everything as before
-abbrev pub is_unchanged : Answer → Bool
+abbrev pub is_unchanged : Result ℕ Failure → Bool
 is_unchanged a = changes_nothing (class_of a)
 
 -- what is claimed of the outcome of a call: an answer of 1 to 11 or 14 leaves everything as before
@@ -79,11 +79,11 @@ StaysWellFormed head table o = well_formed head table ≡ true → well_formed o
 -- a well-formed table that is poisoned is refused with 2, and nothing changes
 abbrev pub RefusesPoisoned : Head → List ℕ → Call → Outcome → Type 0
 RefusesPoisoned head table c o =
-    well_formed head table ≡ true → head.poisoned ≡ 1 → o ≡ as_before head table c.record_list Answer.Poisoned
+    well_formed head table ≡ true → head.poisoned ≡ 1 → o ≡ as_before head table c.record_list (Err Failure.Poisoned)
 
 -- it is refused with 1, whatever its poison flag is, and nothing changes
 abbrev pub RefusesUnformed : Head → List ℕ → Call → Outcome → Type 0
-RefusesUnformed head table c o = well_formed head table ≡ false → o ≡ as_before head table c.record_list Answer.Table
+RefusesUnformed head table c o = well_formed head table ≡ false → o ≡ as_before head table c.record_list (Err Failure.Table)
 
 -- upstream's stable, and the table's size: no answer touches the binding count, and only 12 and 13 touch the poison flag
 pub record Stable (head : Head) (table : List ℕ) (o : Outcome) : Type 0 where

@@ -3,66 +3,101 @@
 #![tactic(auto)]
 
 use rules::Head;
+use std::io;
 
-// Writes a space and a number.
-fn write_number(number: u32) {
-    io::write_all(1, b" ");
-    io::print_decimal(1, number as u64);
+/// The guards that every order holds.
+const GUARDS: [u32; 6] = [0, 5, 0, 6, 1, 9];
+
+/// An order, and what it is published on.
+#[derive(Clone, Copy)]
+struct Order<'a> {
+    letter: char,
+    poisoned: u32,
+    table: &'a [u32],
+    changes: &'a [u32],
+    strip: &'a [u8],
 }
 
-// Publishes one order on a table that has two postings, and writes its line.
-fn order(letter: u8, poisoned: u32, table: &mut [u32], changes: &[u32], strip: &[u8]) {
+impl<'a> Order<'a> {
+    /// An order on a clean head, and on a table that has two postings and room for two more.
+    fn new(letter: char, changes: &'a [u32]) -> Self {
+        Order {
+            letter,
+            poisoned: 0,
+            table: &[0, 5, 1, 0, 5, 2, 0, 0, 0, 0, 0, 0],
+            changes,
+            strip: &[],
+        }
+    }
+
+    /// The order with a strip.
+    fn strip(self, strip: &'a [u8]) -> Self {
+        Order { strip, ..self }
+    }
+
+    /// The order on a poisoned head.
+    fn poisoned(self) -> Self {
+        Order {
+            poisoned: 1,
+            ..self
+        }
+    }
+
+    /// The order on the table cut to its two postings.
+    fn cut(self) -> Self {
+        Order {
+            table: &[0, 5, 1, 0, 5, 2],
+            ..self
+        }
+    }
+}
+
+/// Publishes an order on a copy of its table, and writes its line.
+fn run<R: Print + AllocGlobal>(rt: &R, order: Order<'_>) -> io::Result<()> {
     let head = Head {
         bindings: 2,
         used: 2,
-        poisoned,
+        poisoned: order.poisoned,
     };
-    let guards = [0u32, 5, 0, 6, 1, 9];
-    let mut record = [0u32; 3];
-    let done = publish::publish(head, table, changes, &guards, strip, &mut record);
-    let answer = done.answer;
-    let told = answers::tell(answer);
-    io::write_all(1, &[letter]);
-    write_number(told.answer);
-    write_number(done.head.used);
-    write_number(done.head.poisoned);
-    io::write_all(1, b"\n");
+    let mut table = order.table.to_vec(rt.alloc())?;
+    let mut record = [0; 3];
+    let done = publish::publish(
+        head,
+        &mut table,
+        order.changes,
+        &GUARDS,
+        order.strip,
+        &mut record,
+    );
+    let told = rules::Told::from(done.answer);
+    println!(rt;
+        "{} {} {} {}",
+        order.letter, told.answer, done.head.used, done.head.poisoned
+    )
 }
 
-// An order on the table with room for four postings, and on a clean head.
-fn usual(letter: u8, changes: &[u32], strip: &[u8]) {
-    let mut table = [0u32, 5, 1, 0, 5, 2, 0, 0, 0, 0, 0, 0];
-    order(letter, 0, &mut table, changes, strip);
-}
-
-// An order on the same table, and on a poisoned head.
-fn poisoned(letter: u8, changes: &[u32]) {
-    let mut table = [0u32, 5, 1, 0, 5, 2, 0, 0, 0, 0, 0, 0];
-    order(letter, 1, &mut table, changes, &[]);
-}
-
-// An order on the table cut to its two postings, and on a clean head.
-fn cut(letter: u8, changes: &[u32]) {
-    let mut table = [0u32, 5, 1, 0, 5, 2];
-    order(letter, 0, &mut table, changes, &[]);
-}
-
-fn main() {
-    let moved = [0u32, 1, 1, 5, 1, 6];
-    let three = [1u32, 7, 0, 0, 1, 9, 1, 8, 0, 0, 1, 9, 1, 9, 0, 0, 1, 9];
-    let both = [0u32, 1, 1, 5, 1, 6, 0, 2, 1, 5, 1, 6];
-    usual(b'A', &moved, &[]);
-    usual(b'B', &[0, 1, 1, 5, 0, 0], &[]);
-    usual(b'C', &three, &[]);
-    usual(b'D', &three, &[0, 0, 0, 1, 0]);
-    usual(b'E', &three, &[0, 0, 0, 2, 0]);
-    usual(b'F', &both, &[0, 0, 1]);
-    usual(b'G', &both, &[0, 0, 0, 2]);
-    usual(b'H', &moved, &[1]);
-    usual(b'I', &[0, 1, 0, 0, 1, 6, 0, 1, 0, 0, 1, 6], &[]);
-    usual(b'J', &[0, 2, 0, 0, 1, 5], &[]);
-    usual(b'K', &[0, 3, 0, 0, 1, 6, 0, 3, 1, 6, 0, 0], &[]);
-    poisoned(b'L', &moved);
-    cut(b'M', &moved);
-    usual(b'N', &[], &[]);
+fn main(rt: HostRuntime) -> io::Result<()> {
+    let moved = [0, 1, 1, 5, 1, 6];
+    let three = [1, 7, 0, 0, 1, 9, 1, 8, 0, 0, 1, 9, 1, 9, 0, 0, 1, 9];
+    let both = [0, 1, 1, 5, 1, 6, 0, 2, 1, 5, 1, 6];
+    let orders = [
+        Order::new('A', &moved),
+        Order::new('B', &[0, 1, 1, 5, 0, 0]),
+        Order::new('C', &three),
+        Order::new('D', &three).strip(&[0, 0, 0, 1, 0]),
+        Order::new('E', &three).strip(&[0, 0, 0, 2, 0]),
+        Order::new('F', &both).strip(&[0, 0, 1]),
+        Order::new('G', &both).strip(&[0, 0, 0, 2]),
+        Order::new('H', &moved).strip(&[1]),
+        Order::new('I', &[0, 1, 0, 0, 1, 6, 0, 1, 0, 0, 1, 6]),
+        Order::new('J', &[0, 2, 0, 0, 1, 5]),
+        Order::new('K', &[0, 3, 0, 0, 1, 6, 0, 3, 1, 6, 0, 0]),
+        Order::new('L', &moved).poisoned(),
+        Order::new('M', &moved).cut(),
+        Order::new('N', &[]),
+    ];
+    for order in orders {
+        run(&rt, order)?;
+    }
+    Ok(())
 }

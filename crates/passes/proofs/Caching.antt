@@ -1,85 +1,65 @@
 -- The cached pass, turn by turn: where so many lanes are left, the pass from the start is the pass from here.
-use Prim.Native.Nat.{ℕ, suc, ◌+◌, ◌-◌, ◌≤◌, ◌<◌}
-use native.Mathlib.Omega.{arith}
-use mathlib.Core.Path.{◌≡◌, refl, ap, ◌∙◌}
-use mathlib.Core.List.{List}
-use mathlib.Core.Bool.{true, false}
+use Rattle.std.proofs.Common.{◌≡◌, ℕ, suc, ◌+◌, ◌-◌, ◌<◌, List, Bool, true, false, Result, Ok, drop, refl, ap, ◌∙◌, arith}
 use Rattle.strips.specs.Strips.{byte_at}
-use Rattle.booleans.proofs.Tests.{clash}
 use Rattle.masks.specs.Masks.{lane_in}
-use Rattle.lane_rules.specs.declared.Said.{Said}
-use Rattle.lane_rules.specs.declared.Compared.{Compared}
-use Rattle.lane_rules.specs.declared.Pass.{Pass}
-use Rattle.lane_rules.specs.Steps.{compared}
+use Rattle.lane_rules.specs.declared.ErrorByte.{ErrorByte}
+use Rattle.lane_rules.specs.declared.View.{View}
+use Rattle.lane_rules.specs.Steps.{error_met, compared}
 use Rattle.lane_rules.specs.Passes.{by_said, cached_pass}
+use Rattle.lane_laws.specs.Ends.{cached_work}
+use Rattle.passes.proofs.Standing.{Standing, Ends, standing_start, next_at, standing_next, ends}
 
--- so many lanes are left; each byte read belongs to a lane that is not
-pub record Caching (strip : List ℕ) (height window attached remain read lane : ℕ) : Type 0 where
-  pub few : read + lane ≤ height
-  pub is : cached_pass strip height window attached 0 ≡ cached_pass strip lane window remain read
+-- so many lanes are left
+pub record Caching (strip : List ℕ) (start : View) (rest : List ℕ) (now : View) (lane : ℕ) : Type 0 where
+  pub read : ℕ
+  pub standing : Standing strip start rest now read
+  pub is : cached_work start strip ≡ cached_pass strip lane now.window now.attached read
 
-pub caching_start : (strip : List ℕ) (height window attached : ℕ) → Caching strip height window attached attached 0 height
-caching_start strip height window attached = record { few = omega arith; is = refl }
+pub caching_start : (strip : List ℕ) (start : View) → Caching strip start strip start start.height
+caching_start strip start = record { read = 0; standing = standing_start strip start; is = refl }
 
-module _ (strip : List ℕ) (window attached read lane : ℕ) (h : 0 < lane) where
-  top : lane ≡ suc (lane - 1)
-  top = omega arith
-
-  outside :
-      lane_in window (lane - 1) ≡ false →
-      cached_pass strip lane window attached read ≡ record { said = Said.No; attached = attached; read = read }
-  unfolding cached_pass
-  outside e = ap (λ (n : ℕ). cached_pass strip n window attached read) top ∙ rw e
-
-  tries :
-      (c : Compared) → lane_in window (lane - 1) ≡ true → c ≡ compared (byte_at strip read) (lane - 1) attached →
-      cached_pass strip lane window attached read ≡ by_said c.said (cached_pass strip (lane - 1) window c.attached (read + 1))
-      (record { said = Said.No; attached = c.attached; read = read + 1 })
-      (record { said = Said.Error; attached = c.attached; read = read + 1 })
-  unfolding cached_pass
-  tries c e f = ap (λ (n : ℕ). cached_pass strip n window attached read) top ∙ rw (e, f)
-
--- after a yes the pass goes on
-goes_on : (s : Said) (next stop fail : Pass) → by_said s true false false ≡ true → by_said s next stop fail ≡ next
-goes_on Said.Yes next stop fail e = refl
-goes_on Said.No next stop fail e = absurd (clash false e refl)
-goes_on Said.Error next stop fail e = absurd (clash false e refl)
-
--- and else it stops with what was said
-stops :
-    (s : Said) (next : Pass) (attached read : ℕ) → by_said s true false false ≡ false →
-    by_said s next (record { said = Said.No; attached = attached; read = read })
-    (record { said = Said.Error; attached = attached; read = read })
-    ≡ record { said = s; attached = attached; read = read }
-stops Said.Yes next attached read e = absurd (clash true refl e)
-stops Said.No next attached read e = refl
-stops Said.Error next attached read e = refl
-
-module _ {strip : List ℕ} {height window attached remain read lane : ℕ}
-    (z : Caching strip height window attached remain read lane) where
-  -- a lane outside the window
-  pub caching_outside :
-      0 < lane → lane_in window (lane - 1) ≡ false →
-      cached_pass strip height window attached 0 ≡ record { said = Said.No; attached = remain; read = read }
-  caching_outside h e = z.is ∙ outside strip window remain read lane h e
-
+module _ {strip : List ℕ} {start : View} {rest : List ℕ} {now : View} {lane : ℕ}
+    (z : Caching strip start rest now lane) where
   -- all lanes are done
-  pub caching_end :
-      lane ≡ 0 → cached_pass strip height window attached 0 ≡ record { said = Said.Yes; attached = remain; read = read }
+  pub caching_end : lane ≡ 0 → Ends strip start rest now (Ok true) (cached_work start strip)
   unfolding cached_pass
-  caching_end e = z.is ∙ rw e
+  caching_end e = ends z.standing (Ok true) _ (z.is ∙ rw e)
 
-  module _ (c : Compared) (h : 0 < lane) (i : lane_in window (lane - 1) ≡ true)
-      (f : c ≡ compared (byte_at strip read) (lane - 1) remain) where
-    -- a lane that was cleared
-    pub caching_yes :
-        by_said c.said true false false ≡ true → Caching strip height window attached c.attached (read + 1) (lane - 1)
-    caching_yes s =
-        let a = z.few in
-        record { few = omega arith; is = z.is ∙ (tries strip window remain read lane h c i f ∙ goes_on c.said _ _ _ s) }
+  module _ (h : 0 < lane) where
+    turn : cached_work start strip ≡ cached_pass strip (suc (lane - 1)) now.window now.attached z.read
+    turn =
+        let top : lane ≡ suc (lane - 1) = omega arith in
+        z.is ∙ ap (λ (n : ℕ). cached_pass strip n now.window now.attached z.read) top
 
-    -- a lane that was not
-    pub caching_stop :
-        by_said c.said true false false ≡ false →
-        cached_pass strip height window attached 0 ≡ record { said = c.said; attached = c.attached; read = read + 1 }
-    caching_stop s = z.is ∙ (tries strip window remain read lane h c i f ∙ stops c.said _ _ _ s)
+    -- a lane outside the window
+    pub caching_outside :
+        lane_in now.window (lane - 1) ≡ false → Ends strip start rest now (Ok false) (cached_work start strip)
+    unfolding cached_pass
+    caching_outside i = ends z.standing (Ok false) _ (turn ∙ rw i)
+
+    -- a lane inside it is tried by the next byte
+    module _ (byte attached : ℕ) (said : Result Bool ErrorByte) (next : List ℕ) (i : lane_in now.window (lane - 1) ≡ true)
+        (b : byte ≡ byte_at rest 0) (d : next ≡ drop 1 rest)
+        (e : record { said = said; attached = attached } ≡ compared byte (lane - 1) now.attached) where
+      tries :
+          cached_work start strip ≡ by_said said
+          (cached_pass strip (lane - 1) now.window attached (z.read + 1))
+          (record { said = Ok false; attached = attached; read = z.read + 1 })
+          (record { said = error_met; attached = attached; read = z.read + 1 })
+      unfolding cached_pass
+      tries = turn ∙ rw (i, ← next_at z.standing byte b, ← e) refl
+
+      -- it was cleared
+      pub caching_yes : said ≡ Ok true → Caching strip start next (record now { attached = attached }) (lane - 1)
+      caching_yes s =
+          record { read = z.read + 1; standing = standing_next z.standing next attached d; is = tries ∙ rw s }
+
+      -- it was not
+      pub caching_no :
+          said ≡ Ok false → Ends strip start next (record now { attached = attached }) (Ok false) (cached_work start strip)
+      caching_no s = ends (standing_next z.standing next attached d) (Ok false) _ (tries ∙ rw s)
+
+      -- an error was met
+      pub caching_error :
+          said ≡ error_met → Ends strip start next (record now { attached = attached }) error_met (cached_work start strip)
+      caching_error s = ends (standing_next z.standing next attached d) error_met _ (tries ∙ rw s)

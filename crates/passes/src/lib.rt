@@ -1,147 +1,62 @@
-// Compare and the two passes, step by step, as storage behaves by the strip. An inner layer, not delivered: what counts the bytes
-// read asks that the count has room to grow by one for each step.
+// Compare and the two passes, step by step, as storage behaves by the strip. An inner layer, not delivered. What is left of the strip
+// to read stands behind `strip`, and the view as the steps leave it behind `view`.
 #![tactic(auto)]
 
-ghost use Rattle.std.specs.Prelude.{◌+◌, ◌^◌, ◌<◌, ◌≡◌, true, false};
-ghost use Rattle.lane_rules.specs.declared.Said.{Said};
+ghost use Rattle.std.specs.Prelude.{◌≡◌, drop};
 ghost use Rattle.lane_rules.specs.Steps.{compared};
-ghost use Rattle.lane_rules.specs.Passes.{by_said, failed, cached_pass, try_lane, refreshed_pass};
+ghost use Rattle.lane_rules.specs.Calls.{view_with};
+ghost use Rattle.lane_laws.specs.Ends.{cached_work, refreshed_work};
 
-use lane_rules::{Compared, Pass, Said};
+use lane_rules::{ErrorByte, Said, View};
 use masks::{clear_lane, lane_in};
-use strips::byte_at;
+use strips::next_byte;
 
 // Byte 0 clears the lane and says yes if it is attached, else no; byte 1 says no; byte 2 is an error.
-fn compare(byte: u8, lane: u32, attached: u32) -> Compared
-    ensures { result ≡ compared byte lane attached }
+#[tactic(auto, unfolding(lane_rules::specs::Steps::compared))]
+fn compare(byte: u8, lane: u32, attached: &mut u32) -> Said
+    ensures { record { said = result; attached = attached.new } ≡ compared byte lane attached.old }
 {
-    if byte == 0 {
-        if lane_in(attached, lane) {
-            return Compared {
-                said: Said::Yes,
-                attached: clear_lane(attached, lane),
-            };
+    match byte {
+        0 if lane_in(*attached, lane) => {
+            *attached = clear_lane(*attached, lane);
+            Ok(true)
         }
-        return Compared {
-            said: Said::No,
-            attached,
-        };
-    }
-    if byte == 1 {
-        return Compared {
-            said: Said::No,
-            attached,
-        };
-    }
-    Compared {
-        said: Said::Error,
-        attached,
-    }
-}
-
-// It met an error.
-fn has_failed(pass: Pass) -> bool
-    ensures { result ≡ failed pass }
-{
-    let said = pass.said;
-    match said {
-        Said::Yes => false,
-        Said::No => false,
-        Said::Error => true,
-    }
-}
-
-// It says yes.
-fn is_yes(said: Said) -> bool
-    ensures { result ≡ by_said said true false false }
-{
-    match said {
-        Said::Yes => true,
-        Said::No => false,
-        Said::Error => false,
+        0 | 1 => Ok(false),
+        _ => Err(ErrorByte),
     }
 }
 
 // The cached pass: from the top lane down, no at the first lane that is outside the window or is not cleared.
-pub fn cached_pass(strip: &[u8], height: u32, window: u32, attached: u32) -> Pass
-    ensures { result ≡ cached_pass strip.now height window attached 0 }
+pub fn cached_pass(strip: &mut &[u8], view: &mut View) -> Said
+    ensures said { result ≡ (cached_work view.old strip.old.now).said }
+    ensures view { let p = cached_work view.old strip.old.now in
+        view.new ≡ view_with view.old p.attached view.old.window view.old.retired }
+    ensures strip { strip.new.now ≡ drop (cached_work view.old strip.old.now).read strip.old.now }
 {
-    let mut remain = attached;
-    let mut read = 0;
-    let mut lane = height;
-    while lane > 0 {
-        lane -= 1;
-        if !lane_in(window, lane) {
-            return Pass {
-                said: Said::No,
-                attached: remain,
-                read,
-            };
+    for lane in (0..view.height).rev() {
+        if !lane_in(view.window, lane) {
+            return Ok(false);
         }
-        let tried = compare(byte_at(strip, read), lane, remain);
-        let said = tried.said;
-        remain = tried.attached;
-        read += 1;
-        if !is_yes(said) {
-            return Pass {
-                said,
-                attached: remain,
-                read,
-            };
+        if !compare(next_byte(strip), lane, &mut view.attached)? {
+            return Ok(false);
         }
     }
-    Pass {
-        said: Said::Yes,
-        attached: remain,
-        read,
-    }
+    Ok(true)
 }
 
-// A lane that was tried makes the answer no, whether it was cleared or not.
-fn after_trying(said: Said) -> Said
-    ensures { result ≡ by_said said Said.No Said.No Said.Error }
+// The refreshed pass: from the top lane down, yes where no lane of the window was there to try; an error ends it.
+pub fn refreshed_pass(strip: &mut &[u8], view: &mut View) -> Said
+    ensures said { result ≡ (refreshed_work view.old strip.old.now).said }
+    ensures view { let p = refreshed_work view.old strip.old.now in
+        view.new ≡ view_with view.old p.attached view.old.window view.old.retired }
+    ensures strip { strip.new.now ≡ drop (refreshed_work view.old strip.old.now).read strip.old.now }
 {
-    match said {
-        Said::Yes => Said::No,
-        Said::No => Said::No,
-        Said::Error => Said::Error,
-    }
-}
-
-// One lane of the refreshed pass: outside the window it is skipped, and else it is tried, which makes the answer no.
-fn try_lane(strip: &[u8], window: u32, lane: u32, so_far: Pass) -> Pass
-    requires { so_far.read + 1 < 2 ^ 64 }
-    ensures { result ≡ try_lane strip.now window lane so_far }
-{
-    if !lane_in(window, lane) {
-        return so_far;
-    }
-    let tried = compare(byte_at(strip, so_far.read), lane, so_far.attached);
-    let said = tried.said;
-    Pass {
-        said: after_trying(said),
-        attached: tried.attached,
-        read: so_far.read + 1,
-    }
-}
-
-// The refreshed pass: from the top lane down, yes where no lane was tried; an error ends it.
-pub fn refreshed_pass(strip: &[u8], height: u32, window: u32, attached: u32, start: usize) -> Pass
-    requires { start + height < 2 ^ 64 }
-    ensures { result ≡ refreshed_pass strip.now height window attached start }
-{
-    let mut pass = Pass {
-        said: Said::Yes,
-        attached,
-        read: start,
-    };
-    let mut lane = height;
-    while lane > 0 {
-        lane -= 1;
-        pass = try_lane(strip, window, lane, pass);
-        if has_failed(pass) {
-            return pass;
+    let mut is_untried = true;
+    for lane in (0..view.height).rev() {
+        if lane_in(view.window, lane) {
+            compare(next_byte(strip), lane, &mut view.attached)?;
+            is_untried = false;
         }
     }
-    pass
+    Ok(is_untried)
 }

@@ -1,8 +1,9 @@
 -- One outcome for each call: any two results that its promise allows are equal, with every number of the lists lent for writing.
+use Rattle.std.proofs.Common.{Result, ℕ}
 use Prim.Native.Nat.{ℕ}
 use mathlib.Core.Path.{◌≡◌, sym, ap, ◌∙◌}
 use mathlib.Core.List.{List}
-use Rattle.rules.specs.declared.Answer.{Answer}
+use Rattle.rules.specs.declared.Failure.{Failure}
 use Rattle.rules.specs.declared.Head.{Head}
 use Rattle.rules.specs.Orders.{Call}
 use Rattle.rules.specs.declared.Done.{Done}
@@ -53,6 +54,6 @@ module _ (head : Head) (table : List ℕ) (c : Call) (r r' : Done) (t t' l l' : 
   publish_one_outcome e f = alike r r' t t' l l' (publish_of head table c) e f
 
 pub count_one_outcome :
-    (head : Head) (table : List ℕ) (binding key : ℕ) (a b : Answer) → CountPromise head table binding key a →
+    (head : Head) (table : List ℕ) (binding key : ℕ) (a b : Result ℕ Failure) → CountPromise head table binding key a →
     CountPromise head table binding key b → a ≡ b
 count_one_outcome head table binding key a b e f = told_injective a b (e ∙ sym f)

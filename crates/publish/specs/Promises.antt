@@ -1,7 +1,7 @@
 -- What is seen after a call, and what the rules say is seen. The promise of each call is that the two are equal.
-use Rattle.std.specs.Prelude.{ℕ, ◌≡◌, List}
+use Rattle.std.specs.Prelude.{ℕ, ◌≡◌, List, Result}
 use Rattle.rules.specs.declared.Head.{Head}
-use Rattle.rules.specs.declared.Answer.{Answer}
+use Rattle.rules.specs.declared.Failure.{Failure}
 use Rattle.rules.specs.declared.Told.{Told}
 use Rattle.rules.specs.Answers.{told_of}
 use Rattle.rules.specs.declared.Done.{Done}
@@ -37,5 +37,5 @@ abbrev pub PublishPromise : Head → List ℕ → Call → Done → List ℕ →
 PublishPromise head table c r table_left list_left = seen r table_left list_left ≡ seen_of (publish_of head table c)
 
 -- a count only reads: its answer is all that is seen
-abbrev pub CountPromise : Head → List ℕ → ℕ → ℕ → Answer → Type 0
+abbrev pub CountPromise : Head → List ℕ → ℕ → ℕ → Result ℕ Failure → Type 0
 CountPromise head table binding key a = told_of a ≡ told_of (count_of head table binding key)

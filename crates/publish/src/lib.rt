@@ -3,11 +3,11 @@
 // the rules say.
 #![tactic(auto)]
 
-ghost use Rattle.std.specs.Prelude.{[]};
+ghost use Rattle.std.specs.Prelude.{◌≡◌, []};
 ghost use Rattle.rules.specs.Orders.{lending};
 ghost use Rattle.publish.specs.Promises.{PreparePromise, RollbackPromise, RemovalPromise, PublishPromise, CountPromise};
 
-use rules::{Answer, Done, Head, Verdict};
+use rules::{Answer, Done, Failure, Head};
 
 // Puts the destinations of a change list into the table, all of them or none, and writes their change numbers into the record
 // list. An accepted answer names how many they are.
@@ -24,8 +24,8 @@ pub fn prepare_index_destinations(
         table.new «record».new }
 {
     match refusals::of_prepare(head, table, changes, guards, strip, record) {
-        Verdict::Refused(answer) => Done { head, answer },
-        Verdict::Passes => work::prepare(head, table, changes, strip, record),
+        Ok(list) => work::prepare(head, table, list, strip, record),
+        Err(why) => Done::refused(head, why),
     }
 }
 
@@ -43,8 +43,8 @@ pub fn rollback_index_destinations(
         table.new «record».now }
 {
     match refusals::of_rollback(head, table, changes, guards, strip, record) {
-        Verdict::Refused(answer) => Done { head, answer },
-        Verdict::Passes => work::rollback(head, table, changes, strip, record),
+        Ok(list) => work::rollback(head, table, list, strip, record),
+        Err(why) => Done::refused(head, why),
     }
 }
 
@@ -60,8 +60,8 @@ pub fn remove_index_sources(
         (lending changes.now guards.now strip.now []) result table.new [] }
 {
     match refusals::of_removal(head, table, changes, guards, strip) {
-        Verdict::Refused(answer) => Done { head, answer },
-        Verdict::Passes => work::remove(head, table, changes, strip),
+        Ok(list) => work::remove(head, table, list, strip),
+        Err(why) => Done::refused(head, why),
     }
 }
 
@@ -78,18 +78,17 @@ pub fn publish(
         (lending changes.now guards.now strip.now «record».old) result
         table.new «record».new }
 {
-    let paired = checks::proper_guards(guards);
-    let ordered = refusals::of_order(head, table, changes, paired, strip, record);
-    let guarded = refusals::guarding(ordered, head.bindings, changes, guards);
-    publish_core::publish(head, table, changes, guarded, strip, record)
+    match refusals::of_publish(head, table, changes, guards, strip, record) {
+        Ok(list) => publish_core::publish(head, table, list, strip, record),
+        Err(why) => Done::refused(head, why),
+    }
 }
 
 // How many postings a binding and key have.
+#[tactic(auto, using(laws::proofs::Checks::count_formed), unfolding(rules::specs::Calls::count_of))]
 pub fn count(head: Head, table: &[u32], binding: u32, key: u32) -> Answer
     ensures { CountPromise head table.now binding key result }
 {
-    match refusals::of_count(head, table, binding) {
-        Verdict::Refused(answer) => answer,
-        Verdict::Passes => work::count(head, table, binding, key),
-    }
+    refusals::of_count(head, table, binding)?;
+    Ok(work::count(head, table, binding, key))
 }

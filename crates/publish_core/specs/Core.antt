@@ -1,7 +1,7 @@
 -- Publish beside a verdict of its checks 1 to 6.
-use Rattle.std.specs.Prelude.{ℕ, ◌≤◌, ◌≡◌, List, [], ◌∷◌, true, length}
+use Rattle.std.specs.Prelude.{ℕ, ◌≤◌, ◌≡◌, List, [], ◌∷◌, true, length, Result}
+use Rattle.rules.specs.declared.Failure.{Failure}
 use Rattle.rules.specs.declared.Head.{Head}
-use Rattle.rules.specs.declared.Verdict.{Verdict}
 use Rattle.rules.specs.Limits.{most_changes}
 use Rattle.rules.specs.Table.{postings, well_formed}
 use Rattle.rules.specs.Orders.{changes}
@@ -15,7 +15,7 @@ pub record Ready (head : Head) (table cs list : List ℕ) : Type 0 where
   pub places : length (changes cs) ≤ length list
 
 -- that verdict, then 7 to 9, and then the work
-unfoldable pub core_of : Head → List ℕ → List ℕ → Verdict → List ℕ → List ℕ → Outcome
+unfoldable pub core_of : Head → List ℕ → List ℕ → Result Unit Failure → List ℕ → List ℕ → Outcome
 core_of head table cs earlier strip list =
     unless_refused
     (first_refusal (earlier ∷ arriving_checks (postings head.used table) (changes cs) ∷ leaving_checks (changes cs) ∷ []))

@@ -1,198 +1,207 @@
-// The checks of the posting calls, in groups. A group is asked after the verdict of those before it, and hands a refusal on; so
-// the checks of a call are a straight run of groups, and the first that applies is given. An inner layer, not delivered: a group
-// that names a change asks for a list within its limit, which answer 3 has tested where the verdict before it passes.
+// The checks of the posting calls, in groups, and the groups of each call: a straight run, so that the first that applies is given.
+// Where all pass, a call gets the changes of its list, which is then known to be within its limit. An inner layer, not delivered.
 #![tactic(auto)]
 
-ghost use Rattle.std.specs.Prelude.{◌≤◌, ◌≡◌, [], ◌∷◌, length};
-ghost use Rattle.rules.specs.declared.Answer.{Answer};
-ghost use Rattle.rules.specs.declared.Verdict.{Verdict};
-ghost use Rattle.rules.specs.Limits.{most_changes};
+ghost use Rattle.std.specs.Prelude.{◌≡◌, [], ◌∷◌};
 ghost use Rattle.rules.specs.Table.{postings};
-ghost use Rattle.rules.specs.Orders.{changes, guards, lending};
-ghost use Rattle.rules.specs.Checks.{first_refusal, room_check, guard_check, record_check, opening_checks, lent_checks, arriving_checks, leaving_checks, order_checks, prepare_checks, rollback_checks, removal_checks, count_checks};
+ghost use Rattle.rules.specs.Orders.{changes, guards, proper_guards, lending};
+ghost use Rattle.rules.specs.Checks.{first_refusal, room_check, guard_check, opening_checks, lent_checks, arriving_checks, leaving_checks, order_checks, prepare_checks, rollback_checks, removal_checks, count_checks};
 ghost use Rattle.table.specs.Holding.{Ordered};
 ghost use Rattle.checks.specs.Guarding.{bindings_from};
+ghost use Rattle.refusals.specs.Admitting.{Admits};
 
-use rules::{Answer, Head, Verdict};
+use changes::Changes;
+use checks::{check_bindings, check_guards, check_record, proper_guards, proper_lists};
+use clashes::{check_overlap, check_present, check_twice};
+use rules::{Failure, Head};
+use table::Postings;
 
 // 1 TABLE, 2 POISONED.
-fn opening(head: Head, table: &[u32]) -> Verdict
+#[tactic(auto, unfolding(rules::specs::Checks::first_refusal, rules::specs::Checks::opening_checks, rules::specs::Checks::table_check, rules::specs::Checks::poison_check))]
+fn opening(head: Head, table: &[u32]) -> Result<(), Failure>
     ensures { result ≡ opening_checks head table.now }
 {
-    if table_checks::well_formed(head, table) {
-        if head.poisoned == 0 {
-            return Verdict::Passes;
-        }
-        return Verdict::Refused(Answer::Poisoned);
+    if !table_checks::well_formed(head, table) {
+        return Err(Failure::Table);
     }
-    Verdict::Refused(Answer::Table)
+    if head.poisoned != 0 {
+        return Err(Failure::Poisoned);
+    }
+    Ok(())
 }
 
 // 3 LIST, 4 STRIP, beside guards that are proper or not.
-fn lent(earlier: Verdict, list: &[u32], paired: bool, strip: &[u8]) -> Verdict
-    ensures { result ≡ first_refusal (earlier ∷ lent_checks list.now paired strip.now ∷ []) }
+#[tactic(auto, unfolding(rules::specs::Checks::first_refusal, rules::specs::Checks::lent_checks, rules::specs::Checks::list_check, rules::specs::Checks::strip_check))]
+fn lent<'a>(list: &'a [u32], paired: bool, strip: &[u8]) -> Result<Changes<'a>, Failure>
+    ensures { Admits (lent_checks list.now paired strip.now) list.now result }
 {
-    let Verdict::Passes = earlier else {
-        return earlier;
+    let Some(changes) = proper_lists(list, paired) else {
+        return Err(Failure::List);
     };
-    if checks::proper_lists(list, paired) {
-        if strips::proper_strip(strip) {
-            return Verdict::Passes;
-        }
-        return Verdict::Refused(Answer::Strip);
+    if !strips::proper_strip(strip) {
+        return Err(Failure::Strip);
     }
-    Verdict::Refused(Answer::List)
+    Ok(changes)
 }
 
 // 5 ROOM.
-fn room(earlier: Verdict, list: &[u32], record: &[u32]) -> Verdict
-    ensures { result ≡ first_refusal (earlier ∷ room_check (changes list.now) «record».now ∷ []) }
+#[tactic(auto, unfolding(rules::specs::Checks::room_check))]
+fn room(list: Changes, record: &[u32]) -> Result<(), Failure>
+    ensures { result ≡ room_check (changes list.entry.numbers.now) «record».now }
 {
-    let Verdict::Passes = earlier else {
-        return earlier;
-    };
-    if changes::count_of(list) <= record.len() {
-        return Verdict::Passes;
+    if list.len() > record.len() {
+        return Err(Failure::Room);
     }
-    Verdict::Refused(Answer::Room)
+    Ok(())
 }
 
-// 6 GUARD by the flat numbers of the guards, which nobody walks where an earlier check refused.
-pub fn guarding(earlier: Verdict, bindings: u32, list: &[u32], pairs: &[u32]) -> Verdict
-    requires { earlier ≡ Verdict.Passes → length (changes list.now) ≤ most_changes }
-    ensures { result ≡ first_refusal
-        (earlier ∷ guard_check bindings (guards pairs.now) (changes list.now) ∷ []) }
+// 6 GUARD by the flat numbers of the guards.
+fn guarded(head: Head, list: Changes, pairs: &[u32]) -> Result<(), Failure>
+    ensures { result ≡ guard_check head.bindings (guards pairs.now) (changes list.entry.numbers.now) }
 {
-    let Verdict::Passes = earlier else {
-        return earlier;
-    };
-    checks::check_guards(bindings, list, pairs)
-}
-
-// 6 GUARD by the first change with a key that is not held.
-pub fn binding(earlier: Verdict, bindings: u32, list: &[u32], unheld: usize) -> Verdict
-    requires { earlier ≡ Verdict.Passes → length (changes list.now) ≤ most_changes }
-    ensures { result ≡ first_refusal (earlier ∷ bindings_from bindings unheld 0 (changes list.now) ∷ []) }
-{
-    let Verdict::Passes = earlier else {
-        return earlier;
-    };
-    checks::check_bindings(bindings, list, unheld)
+    check_guards(head.bindings, list, pairs)
 }
 
 // 7 TWICE, 8 PRESENT.
-pub fn arriving(earlier: Verdict, table: &[u32], used: u32, list: &[u32]) -> Verdict
-    requires ordered { earlier ≡ Verdict.Passes → Ordered table.now used }
-    requires within_limits { earlier ≡ Verdict.Passes → length (changes list.now) ≤ most_changes }
-    ensures { result ≡ first_refusal
-        (earlier ∷ arriving_checks (postings used table.now) (changes list.now) ∷ []) }
+#[tactic(auto, unfolding(rules::specs::Checks::first_refusal, rules::specs::Checks::arriving_checks))]
+fn arriving(head: Head, table: &[u32], list: Changes) -> Result<(), Failure>
+    requires { Ordered table.now head.used }
+    ensures { result ≡ arriving_checks (postings head.used table.now) (changes list.entry.numbers.now) }
 {
-    let Verdict::Passes = earlier else {
-        return earlier;
-    };
-    let single = clashes::check_twice(list);
-    let Verdict::Passes = single else {
-        return single;
-    };
-    clashes::check_present(table, used as usize, list)
+    check_twice(list)?;
+    check_present(&Postings::new(table, head.used as usize), list)
 }
 
-// 9 OVERLAP: what is asked of sources.
-pub fn leaving(earlier: Verdict, list: &[u32]) -> Verdict
-    requires { earlier ≡ Verdict.Passes → length (changes list.now) ≤ most_changes }
-    ensures { result ≡ first_refusal (earlier ∷ leaving_checks (changes list.now) ∷ []) }
+// 7 to 9: the destinations, and then the sources.
+#[tactic(auto, unfolding(rules::specs::Checks::first_refusal, rules::specs::Checks::leaving_checks))]
+pub fn clashing(head: Head, table: &[u32], list: Changes) -> Result<(), Failure>
+    requires { Ordered table.now head.used }
+    ensures { result ≡ first_refusal (arriving_checks (postings head.used table.now) (changes list.entry.numbers.now)
+        ∷ leaving_checks (changes list.entry.numbers.now) ∷ []) }
 {
-    let Verdict::Passes = earlier else {
-        return earlier;
-    };
-    clashes::check_overlap(list)
-}
-
-// 14 RECORD.
-fn recording(earlier: Verdict, list: &[u32], record: &[u32]) -> Verdict
-    requires { earlier ≡ Verdict.Passes → length (changes list.now) ≤ most_changes }
-    ensures { result ≡ first_refusal (earlier ∷ record_check (changes list.now) «record».now ∷ []) }
-{
-    let Verdict::Passes = earlier else {
-        return earlier;
-    };
-    checks::check_record(list, record)
+    arriving(head, table, list)?;
+    check_overlap(list)
 }
 
 // Publish 1 to 5, beside guards that are proper or not.
-pub fn of_order(
+#[tactic(auto, unfolding(rules::specs::Checks::first_refusal, rules::specs::Checks::order_checks))]
+fn of_order<'a>(
     head: Head,
     table: &[u32],
-    list: &[u32],
+    list: &'a [u32],
     paired: bool,
     strip: &[u8],
     record: &[u32],
-) -> Verdict
-    ensures { result ≡ order_checks head table.now list.now paired strip.now
-        «record».now }
+) -> Result<Changes<'a>, Failure>
+    ensures { Admits (order_checks head table.now list.now paired strip.now «record».now) list.now result }
 {
-    let opened = opening(head, table);
-    let proper = lent(opened, list, paired, strip);
-    room(proper, list, record)
+    opening(head, table)?;
+    let changes = lent(list, paired, strip)?;
+    room(changes, record)?;
+    Ok(changes)
+}
+
+// Publish 1 to 6, beside the flat numbers of the guards.
+#[tactic(auto, unfolding(rules::specs::Checks::first_refusal))]
+pub fn of_publish<'a>(
+    head: Head,
+    table: &[u32],
+    list: &'a [u32],
+    pairs: &[u32],
+    strip: &[u8],
+    record: &[u32],
+) -> Result<Changes<'a>, Failure>
+    ensures { Admits (first_refusal (order_checks head table.now list.now (proper_guards pairs.now) strip.now «record».now
+        ∷ guard_check head.bindings (guards pairs.now) (changes list.now) ∷ [])) list.now result }
+{
+    let changes = of_order(head, table, list, proper_guards(pairs), strip, record)?;
+    guarded(head, changes, pairs)?;
+    Ok(changes)
+}
+
+// Publish 1 to 6, beside guards that are proper or not, of which the first change with a key that is not held is known.
+#[tactic(auto, unfolding(rules::specs::Checks::first_refusal))]
+pub fn of_publish_beside<'a>(
+    head: Head,
+    table: &[u32],
+    list: &'a [u32],
+    paired: bool,
+    unheld: usize,
+    strip: &[u8],
+    record: &[u32],
+) -> Result<Changes<'a>, Failure>
+    ensures { Admits (first_refusal (order_checks head table.now list.now paired strip.now «record».now
+        ∷ bindings_from head.bindings unheld 0 (changes list.now) ∷ [])) list.now result }
+{
+    let changes = of_order(head, table, list, paired, strip, record)?;
+    check_bindings(head.bindings, changes, unheld)?;
+    Ok(changes)
 }
 
 // Prepare 1 to 8.
-pub fn of_prepare(
+#[tactic(auto, unfolding(rules::specs::Checks::first_refusal, rules::specs::Checks::prepare_checks))]
+pub fn of_prepare<'a>(
     head: Head,
     table: &[u32],
-    list: &[u32],
+    list: &'a [u32],
     pairs: &[u32],
     strip: &[u8],
     record: &[u32],
-) -> Verdict
-    ensures { result ≡ prepare_checks head table.now
-        (lending list.now pairs.now strip.now «record».now) }
+) -> Result<Changes<'a>, Failure>
+    ensures { Admits (prepare_checks head table.now (lending list.now pairs.now strip.now «record».now)) list.now result }
 {
-    let opened = opening(head, table);
-    let proper = lent(opened, list, checks::proper_guards(pairs), strip);
-    let roomy = room(proper, list, record);
-    let guarded = guarding(roomy, head.bindings, list, pairs);
-    arriving(guarded, table, head.used, list)
+    opening(head, table)?;
+    let changes = lent(list, proper_guards(pairs), strip)?;
+    room(changes, record)?;
+    guarded(head, changes, pairs)?;
+    arriving(head, table, changes)?;
+    Ok(changes)
 }
 
 // Rollback 1 to 4, 6, 14.
-pub fn of_rollback(
+#[tactic(auto, unfolding(rules::specs::Checks::first_refusal, rules::specs::Checks::rollback_checks))]
+pub fn of_rollback<'a>(
     head: Head,
     table: &[u32],
-    list: &[u32],
+    list: &'a [u32],
     pairs: &[u32],
     strip: &[u8],
     record: &[u32],
-) -> Verdict
-    ensures { result ≡ rollback_checks head table.now
-        (lending list.now pairs.now strip.now «record».now) }
+) -> Result<Changes<'a>, Failure>
+    ensures { Admits (rollback_checks head table.now (lending list.now pairs.now strip.now «record».now)) list.now result }
 {
-    let opened = opening(head, table);
-    let proper = lent(opened, list, checks::proper_guards(pairs), strip);
-    let guarded = guarding(proper, head.bindings, list, pairs);
-    recording(guarded, list, record)
+    opening(head, table)?;
+    let undone = lent(list, proper_guards(pairs), strip)?;
+    guarded(head, undone, pairs)?;
+    check_record(undone, record)?;
+    Ok(undone)
 }
 
 // Removal 1 to 4, 6.
-pub fn of_removal(head: Head, table: &[u32], list: &[u32], pairs: &[u32], strip: &[u8]) -> Verdict
-    ensures { result ≡ removal_checks head table.now
-        (lending list.now pairs.now strip.now []) }
+#[tactic(auto, unfolding(rules::specs::Checks::first_refusal, rules::specs::Checks::removal_checks))]
+pub fn of_removal<'a>(
+    head: Head,
+    table: &[u32],
+    list: &'a [u32],
+    pairs: &[u32],
+    strip: &[u8],
+) -> Result<Changes<'a>, Failure>
+    ensures { Admits (removal_checks head table.now (lending list.now pairs.now strip.now [])) list.now result }
 {
-    let opened = opening(head, table);
-    let proper = lent(opened, list, checks::proper_guards(pairs), strip);
-    guarding(proper, head.bindings, list, pairs)
+    opening(head, table)?;
+    let changes = lent(list, proper_guards(pairs), strip)?;
+    guarded(head, changes, pairs)?;
+    Ok(changes)
 }
 
 // Count 1, 2 and 6, which asks its binding alone.
-pub fn of_count(head: Head, table: &[u32], binding: u32) -> Verdict
+#[tactic(auto, unfolding(rules::specs::Checks::first_refusal, rules::specs::Checks::count_checks))]
+pub fn of_count(head: Head, table: &[u32], binding: u32) -> Result<(), Failure>
     ensures { result ≡ count_checks head table.now binding }
 {
-    let opened = opening(head, table);
-    let Verdict::Passes = opened else {
-        return opened;
-    };
-    if binding < head.bindings {
-        return Verdict::Passes;
+    opening(head, table)?;
+    if binding >= head.bindings {
+        return Err(Failure::Guard(0));
     }
-    Verdict::Refused(Answer::Guard(0))
+    Ok(())
 }

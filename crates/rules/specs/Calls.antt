@@ -1,12 +1,11 @@
 -- The public calls: what each answers, and the table, head and record list that it leaves.
-use Rattle.std.specs.Prelude.{ℕ, List, [], reverse, cond, length}
+use Rattle.std.specs.Prelude.{ℕ, List, [], reverse, cond, length, Result, Ok, Err}
 use Rattle.lent_lists.specs.Written.{written}
 use Rattle.rules.specs.declared.Posting.{Posting}
 use Rattle.rules.specs.declared.Change.{Change}
 use Rattle.rules.specs.declared.Head.{Head}
 use Rattle.rules.specs.declared.Done.{Done}
-use Rattle.rules.specs.declared.Answer.{Answer}
-use Rattle.rules.specs.declared.Verdict.{Verdict}
+use Rattle.rules.specs.declared.Failure.{Failure}
 use Rattle.rules.specs.Postings.{counted}
 use Rattle.rules.specs.Table.{capacity, postings, laid_out}
 use Rattle.rules.specs.Orders.{Numbered, destinations, sources, change_numbers, recorded, Call, changes_of}
@@ -16,7 +15,7 @@ use Rattle.rules.specs.Publication.{undoing, Stage, preparing, removing, rolled_
 
 -- all that is seen after a call
 pub record Outcome : Type 0 where
-  pub answer : Answer
+  pub answer : Result ℕ Failure
   pub head : Head
   pub table : List ℕ
   pub record_list : List ℕ
@@ -26,20 +25,20 @@ abbrev pub outcome_of : Done → List ℕ → List ℕ → Outcome
 outcome_of r table list = record { answer = r.answer; head = r.head; table = table; record_list = list }
 
 -- a refusal changes nothing
-abbrev pub as_before : Head → List ℕ → List ℕ → Answer → Outcome
+abbrev pub as_before : Head → List ℕ → List ℕ → Result ℕ Failure → Outcome
 as_before head table list a = record { answer = a; head = head; table = table; record_list = list }
 
 -- the refusal, or else the work
-abbrev pub unless_refused : Verdict → (Answer → Outcome) → Outcome → Outcome
-unless_refused Verdict.Passes refusal work = work
-unless_refused (Verdict.Refused a) refusal work = refusal a
+abbrev pub unless_refused : Result Unit Failure → (Result ℕ Failure → Outcome) → Outcome → Outcome
+unless_refused (Ok _) refusal work = work
+unless_refused (Err why) refusal work = refusal (Err why)
 
 -- a head with another used and flag
 abbrev pub head_with : Head → ℕ → ℕ → Head
 head_with head used poisoned = record { bindings = head.bindings; used = used; poisoned = poisoned }
 
 -- the head beside these postings; 12 and 13 set its poison flag
-abbrev pub head_after : Head → Answer → List Posting → Head
+abbrev pub head_after : Head → Result ℕ Failure → List Posting → Head
 head_after head a ps = head_with head (length ps) (cond (poisons a) 1 head.poisoned)
 
 -- a stage's postings shown in the lent table, with the head and the record list that go with them
@@ -70,11 +69,11 @@ module _ (head : Head) (table : List ℕ) (cs : List Change) (strip : List ℕ) 
   abbrev pub rollback_work : List ℕ → Outcome
   rollback_work list =
       shown head table list
-      (rolled_back (undoing strip (reverse (recorded cs list)) Verdict.Passes 0 (postings head.used table)))
+      (rolled_back (undoing strip (reverse (recorded cs list)) (Ok tt) 0 (postings head.used table)))
 
   -- source removal
   abbrev pub removal_work : List ℕ → Outcome
-  removal_work list = shown head table list (removing strip (Answer.Accepted 0) (sources cs) 0 (postings head.used table))
+  removal_work list = shown head table list (removing strip (Ok 0) (sources cs) 0 (postings head.used table))
 
   -- publish: prepare, then source removal
   abbrev pub publish_work : List ℕ → Outcome
@@ -111,6 +110,6 @@ module _ (head : Head) (table : List ℕ) (c : Call) where
       (publish_work head table (changes_of c) c.strip c.record_list)
 
 -- count: how many postings a binding and key have; an absent key has 0
-unfoldable pub count_of : Head → List ℕ → ℕ → ℕ → Answer
+unfoldable pub count_of : Head → List ℕ → ℕ → ℕ → Result ℕ Failure
 count_of head table binding key =
-    settled (count_checks head table binding) (Answer.Accepted (counted binding key (postings head.used table)))
+    settled (count_checks head table binding) (Ok (counted binding key (postings head.used table)))

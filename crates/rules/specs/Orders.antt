@@ -1,14 +1,13 @@
 -- What a call lends: a change list, guards, a strip and a record list; and the destinations and sources that the changes name.
-use Rattle.std.specs.Prelude.{ℕ, ◌+◌, ◌%◌, List, [], ◌∷◌, map, Bool, true, false, cond, ◌&&◌, ◌||◌, length, get_or, eqb, leb}
+use Rattle.std.specs.Prelude.{ℕ, ◌+◌, ◌%◌, List, [], ◌∷◌, map, Bool, true, false, cond, ◌&&◌, ◌||◌, length, get_or, eqb, leb, Option, Some, None}
 use Rattle.rules.specs.declared.Posting.{Posting}
-use Rattle.rules.specs.declared.Key.{Key}
 use Rattle.rules.specs.declared.Change.{Change}
 use Rattle.rules.specs.declared.Guard.{Guard}
 use Rattle.rules.specs.Limits.{most_changes, most_guards}
 
 -- a flag and a key: with flag 0 there is none
-abbrev pub key_of : ℕ → ℕ → Key
-key_of flag key = cond (eqb flag 0) Key.Missing (Key.Named key)
+abbrev pub key_of : ℕ → ℕ → Option ℕ
+key_of flag key = cond (eqb flag 0) None (Some key)
 
 -- six numbers each: binding, row, before flag, before key, after flag, after key
 unfoldable pub changes : List ℕ → List Change
@@ -57,11 +56,11 @@ held binding key [] = false
 held binding key (g ∷ gs) = (eqb binding g.binding && eqb key g.key) || held binding key gs
 
 -- where a change brings its row
-abbrev pub destination_of : Change → Key
+abbrev pub destination_of : Change → Option ℕ
 destination_of c = c.after
 
 -- whence it takes it
-abbrev pub source_of : Change → Key
+abbrev pub source_of : Change → Option ℕ
 source_of c = c.before
 
 -- a posting with the number of the change that names it
@@ -70,9 +69,9 @@ pub record Numbered : Type 0 where
   pub posting : Posting
 
 -- the change's posting under a key, in front of others; a change with no key is passed over
-abbrev pub named : ℕ → Change → Key → List Numbered → List Numbered
-named i c Key.Missing others = others
-named i c (Key.Named key) others =
+abbrev pub named : ℕ → Change → Option ℕ → List Numbered → List Numbered
+named i c None others = others
+named i c (Some key) others =
     record { number = i; posting = record { binding = c.binding; key = key; row = c.row } } ∷ others
 
 -- the destinations of changes that are numbered from i on
@@ -103,7 +102,7 @@ change_numbers ds = map (λ (d : Numbered). d.number) ds
 
 -- a change that is not there: it names nothing
 abbrev pub no_change : Change
-no_change = record { binding = 0; row = 0; before = Key.Missing; after = Key.Missing }
+no_change = record { binding = 0; row = 0; before = None; after = None }
 
 -- the destinations that a record's numbers mean, in the record's order
 unfoldable pub recorded : List Change → List ℕ → List Numbered

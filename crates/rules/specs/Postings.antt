@@ -1,7 +1,7 @@
 -- Lists of postings: their order, and what it means to stand in a list, to be inserted, removed and counted.
 use Rattle.std.specs.Prelude.{ℕ, List, [], ◌∷◌, Bool, true, false, cond, ◌&&◌, ◌||◌, length, eqb, ltb}
 use Rattle.rules.specs.declared.Posting.{Posting}
-use Rattle.rules.specs.declared.Order.{Order}
+use Rattle.std.specs.declared.cmp.Ordering.{Ordering}
 
 -- every element of the list passes the test
 unfoldable pub every : {A : Type 0} → (A → Bool) → List A → Bool
@@ -9,25 +9,25 @@ every f [] = true
 every f (x ∷ xs) = f x && every f xs
 
 -- two numbers first, and where they are equal what comes next decides
-unfoldable pub ranked : ℕ → ℕ → Order → Order
-ranked a b next = cond (ltb a b) Order.Before (cond (ltb b a) Order.After next)
+unfoldable pub ranked : ℕ → ℕ → Ordering → Ordering
+ranked a b next = cond (ltb a b) Ordering.Less (cond (ltb b a) Ordering.Greater next)
 
 -- by binding, key, row
-unfoldable pub compared : Posting → Posting → Order
+unfoldable pub compared : Posting → Posting → Ordering
 compared p q =
-    ranked p.binding q.binding (ranked p.key q.key (ranked p.row q.row Order.Same))
+    ranked p.binding q.binding (ranked p.key q.key (ranked p.row q.row Ordering.Equal))
 
 -- the first stands before the second
-abbrev pub is_before : Order → Bool
-is_before Order.Before = true
-is_before Order.Same = false
-is_before Order.After = false
+abbrev pub is_before : Ordering → Bool
+is_before Ordering.Less = true
+is_before Ordering.Equal = false
+is_before Ordering.Greater = false
 
 -- the two are one
-abbrev pub is_same : Order → Bool
-is_same Order.Before = false
-is_same Order.Same = true
-is_same Order.After = false
+abbrev pub is_same : Ordering → Bool
+is_same Ordering.Less = false
+is_same Ordering.Equal = true
+is_same Ordering.Greater = false
 
 -- one and the same posting
 unfoldable pub same : Posting → Posting → Bool
@@ -49,10 +49,10 @@ present p [] = false
 present p (q ∷ qs) = same p q || present p qs
 
 -- p beside q, the head of a list: in front of it, found there already, or further on
-abbrev pub placed : Order → Posting → Posting → List Posting → List Posting → List Posting
-placed Order.Before p q qs further = p ∷ q ∷ qs
-placed Order.Same p q qs further = q ∷ qs
-placed Order.After p q qs further = q ∷ further
+abbrev pub placed : Ordering → Posting → Posting → List Posting → List Posting → List Posting
+placed Ordering.Less p q qs further = p ∷ q ∷ qs
+placed Ordering.Equal p q qs further = q ∷ qs
+placed Ordering.Greater p q qs further = q ∷ further
 
 -- p at its place; a list that has it stays
 unfoldable pub inserted : Posting → List Posting → List Posting

@@ -1,12 +1,12 @@
 -- How storage behaves, by the next byte of the strip.
-use Rattle.std.specs.Prelude.{ℕ, List, Bool, true, false, cond, length, eqb, ltb}
+use Rattle.std.specs.Prelude.{ℕ, List, Bool, true, false, cond, length, eqb, ltb, Option, Some, None}
 use Rattle.rules.specs.declared.Posting.{Posting}
 use Rattle.rules.specs.declared.Fault.{Fault}
 use Rattle.rules.specs.Postings.{inserted, removed}
 
 -- what an insertion met, and the postings that it left
 pub record Insertion : Type 0 where
-  pub fault : Fault
+  pub fault : Option Fault
   pub postings : List Posting
 
 -- byte 0 inserts, or fails full if used = capacity, which it never exceeds; byte 1 or 2 fails unchanged
@@ -14,9 +14,9 @@ unfoldable pub insertion : ℕ → ℕ → Posting → List Posting → Insertio
 insertion byte capacity p ps =
     cond (eqb byte 0)
     (cond (ltb (length ps) capacity)
-    (record { fault = Fault.Nothing; postings = inserted p ps })
-    (record { fault = Fault.Full; postings = ps }))
-    (record { fault = Fault.Store; postings = ps })
+    (record { fault = None; postings = inserted p ps })
+    (record { fault = Some Fault.Full; postings = ps }))
+    (record { fault = Some Fault.Store; postings = ps })
 
 -- whether a removal failed, and the postings that it left
 pub record Removal : Type 0 where

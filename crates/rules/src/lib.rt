@@ -3,41 +3,41 @@
 // Checks, Calls, and then Letters and Examples, where they are tried.
 #![tactic(auto)]
 
-// A row that stands in the index `binding` under `key`.
-#[derive(Clone, Copy)]
+ghost use Rattle.std.specs.Prelude.{◌≡◌, Err};
+
+// A row that stands in the index `binding` under `key`. The table's order is that of the fields: binding, key, row.
+#[derive(Clone, Copy, PartialEq, Eq, PartialOrd, Ord)]
 pub struct Posting {
     pub binding: u32,
     pub key: u32,
     pub row: u32,
 }
 
-// How one posting stands to another in the table's order.
-#[derive(Clone, Copy)]
-pub enum Order {
-    Before,
-    Same,
-    After,
-}
-
-// The key that a change takes a row from or brings it to, or none.
-#[derive(Clone, Copy)]
-pub enum Key {
-    Missing,
-    Named(u32),
-}
-
-// One change of an order: the row leaves its key before and comes to its key after.
+// One change of an order: the row leaves its key before, if it has one, and comes to its key after, if it has one.
 #[derive(Clone, Copy)]
 pub struct Change {
     pub binding: u32,
     pub row: u32,
-    pub before: Key,
-    pub after: Key,
+    pub before: Option<u32>,
+    pub after: Option<u32>,
+}
+
+impl Change {
+    // The posting of the change's row under a key.
+    pub fn posting(self, key: u32) -> Posting
+        ensures { result ≡ record { binding = self.binding; key = key; row = self.row } }
+    {
+        Posting {
+            binding: self.binding,
+            key,
+            row: self.row,
+        }
+    }
 }
 
 // A held guard: whoever publishes holds this key of this index.
 #[repr(C)]
-#[derive(Clone, Copy)]
+#[derive(Clone, Copy, PartialEq, Eq)]
 pub struct Guard {
     pub binding: u32,
     pub key: u32,
@@ -52,19 +52,16 @@ pub struct Head {
     pub poisoned: u32,
 }
 
-// What a storage insertion met.
+// Why a storage insertion failed.
 #[derive(Clone, Copy)]
 pub enum Fault {
-    Nothing,
     Store,
     Full,
 }
 
-// The answers, a variant for each number that an operator sees (specs/Answers.antt gives number and named values).
+// Why a call was not accepted, a variant for each number that an operator sees (specs/Answers.antt gives number and named values).
 #[derive(Clone, Copy)]
-pub enum Answer {
-    // 0, with what the call names: the length of its record, a count, or 0.
-    Accepted(u32),
+pub enum Failure {
     // 1: the table or its head is not well formed.
     Table,
     // 2: the poison flag was set at entry.
@@ -95,6 +92,9 @@ pub enum Answer {
     Record(u32),
 }
 
+// What a call answers. Accepted, which is number 0, it names the length of its record, a count, or 0.
+pub type Answer = Result<u32, Failure>;
+
 // An answer as three numbers: the answer's own, what it names, and the second change of answer 7 (else 0).
 #[repr(C)]
 #[derive(Clone, Copy)]
@@ -104,17 +104,65 @@ pub struct Told {
     pub other: u32,
 }
 
-// What a check finds. Of a run of undo removals: whether one failed, and with which change the last one did.
-#[derive(Clone, Copy)]
-pub enum Verdict {
-    Passes,
-    Refused(Answer),
-}
-
 // What a call answers, and the head that it leaves. The head goes by value: the next call on this table must be given this one,
 // or a poison flag that 12 or 13 set is lost.
 #[derive(Clone, Copy)]
 pub struct Done {
     pub head: Head,
     pub answer: Answer,
+}
+
+impl Done {
+    // What a refused call returns: the head as it was.
+    pub fn refused(head: Head, why: Failure) -> Done
+        ensures { result ≡ record { head = head; answer = Err why } }
+    {
+        Done {
+            head,
+            answer: Err(why),
+        }
+    }
+}
+
+impl Told {
+    // An answer that names one thing.
+    fn naming(answer: u32, named: u32) -> Told
+        ensures { result ≡ record { answer = answer; named = named; other = 0 } }
+    {
+        Told {
+            answer,
+            named,
+            other: 0,
+        }
+    }
+}
+
+impl From<Answer> for Told {
+    ghost use Rattle.rules.specs.Answers.{told_of};
+
+    ghost from_gives = { λ answer told. told ≡ told_of answer };
+
+    fn from(answer: Answer) -> Told {
+        match answer {
+            Ok(named) => Told::naming(0, named),
+            Err(Failure::Table) => Told::naming(1, 0),
+            Err(Failure::Poisoned) => Told::naming(2, 0),
+            Err(Failure::List) => Told::naming(3, 0),
+            Err(Failure::Strip) => Told::naming(4, 0),
+            Err(Failure::Room) => Told::naming(5, 0),
+            Err(Failure::Guard(change)) => Told::naming(6, change),
+            Err(Failure::Twice(earlier, later)) => Told {
+                answer: 7,
+                named: earlier,
+                other: later,
+            },
+            Err(Failure::Present(change)) => Told::naming(8, change),
+            Err(Failure::Overlap(change)) => Told::naming(9, change),
+            Err(Failure::Store(change)) => Told::naming(10, change),
+            Err(Failure::Full(change)) => Told::naming(11, change),
+            Err(Failure::Undo(change)) => Told::naming(12, change),
+            Err(Failure::Source(change)) => Told::naming(13, change),
+            Err(Failure::Record(place)) => Told::naming(14, place),
+        }
+    }
 }

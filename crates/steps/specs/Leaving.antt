@@ -1,21 +1,16 @@
 -- What a part of a call leaves: the rules' own stage, seen in a lent table; and what a failed insertion is answered with.
-use Rattle.std.specs.Prelude.{ℕ, ◌≤◌, ◌≡◌, List}
-use Rattle.rules.specs.declared.Answer.{Answer}
+use Rattle.std.specs.Prelude.{ℕ, ◌≡◌, Result}
+use Rattle.rules.specs.declared.Failure.{Failure}
 use Rattle.rules.specs.declared.Fault.{Fault}
-use Rattle.rules.specs.declared.Verdict.{Verdict}
 use Rattle.rules.specs.Publication.{Stage}
-use Rattle.table.specs.Holding.{Carries}
-use Rattle.steps.specs.declared.Reached.{Reached}
+use Rattle.storage.specs.declared.Storage.{Storage}
+use Rattle.storage.specs.Leaving.{Leaves}
 
 -- the answer of a change whose insertion met a fault
-abbrev pub blamed_on : Fault → ℕ → Verdict
-blamed_on Fault.Nothing change = Verdict.Passes
-blamed_on Fault.Store change = Verdict.Refused (Answer.Store change)
-blamed_on Fault.Full change = Verdict.Refused (Answer.Full change)
+abbrev pub blamed_on : Fault → ℕ → Failure
+blamed_on Fault.Store change = Failure.Store change
+blamed_on Fault.Full change = Failure.Full change
 
--- a part of a call in a table, which has read at most so many bytes
-pub record StageIn (s : Stage) (r : Reached) (table : List ℕ) (most : ℕ) : Type 0 where
-  pub answer : r.answer ≡ s.answer
-  pub carries : Carries table r.used s.postings
-  pub read : r.read ≡ s.read
-  pub few : r.read ≤ most
+-- a part of a call in a table with its strip
+abbrev pub StageIn : Stage → Result ℕ Failure → Storage → Storage → Type 0
+StageIn s answer before after = (answer ≡ s.answer) × Leaves before after s.postings s.read

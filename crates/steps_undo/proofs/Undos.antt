@@ -1,84 +1,65 @@
 -- Undo: one change, and the turns of a run from the last change to the first.
-use Prim.Native.Nat.{ℕ, zero, suc, ◌+◌, ◌-◌, ◌<◌, ◌≤◌}
+use Rattle.std.proofs.Common.{Option, Some, None, Result, Ok, Err, ℕ}
+use Prim.Native.Nat.{ℕ, zero, suc, ◌+◌, ◌-◌, ◌<◌}
 use native.Mathlib.Omega.{arith}
 use mathlib.Core.Path.{◌≡◌, refl, sym, ap, ◌∙◌}
 use mathlib.Core.List.{List, [], ◌∷◌, ◌++◌, reverse, reverse_aux-eq, append-nil}
-use mathlib.Core.Bool.{Bool, true, cond}
+use mathlib.Core.Bool.{true, cond}
 use mathlib.Mathlib.Data.Bool.Basic.{and_elim_left, and_elim_right}
-use lib.ListN.{length, get_or}
+use lib.ListN.{length, get_or, drop}
+use lib.Seq.{get_or-drop}
 use lib.Dec.{ltb}
 use borrow.Author.Tests.{ltb-true}
 use Rattle.strips.specs.Strips.{byte_at}
 use Rattle.rules.specs.declared.Change.{Change}
-use Rattle.rules.specs.declared.Key.{Key}
 use Rattle.rules.specs.declared.Posting.{Posting}
-use Rattle.rules.specs.declared.Answer.{Answer}
-use Rattle.rules.specs.declared.Verdict.{Verdict}
-use Rattle.rules.specs.Table.{postings}
+use Rattle.rules.specs.declared.Failure.{Failure}
 use Rattle.rules.specs.Orders.{Numbered, named, destination_of, no_change, recorded}
 use Rattle.rules.specs.Storage.{removal}
 use Rattle.rules.specs.Postings.{every}
-use Rattle.rules.specs.Publication.{undoing}
+use Rattle.rules.specs.Publication.{Undone, undoing}
 use Rattle.changes.proofs.Walk.{named_append}
-use Rattle.table.specs.Holding.{Ordered}
-use Rattle.table.proofs.Keeping.{carries_postings, carries_ordered}
-use Rattle.storage.specs.declared.Removed.{Removed}
-use Rattle.steps_undo.specs.declared.Back.{Back}
-use Rattle.storage.specs.Leaving.{RemovalIn}
-use Rattle.steps_undo.specs.Leaving.{UndoneIn, OneUndone, backward, as_recorded}
-
--- a change with no destination leaves all as it is
-pub undone_none :
-    (strip : List ℕ) (number : ℕ) (c : Change) (from : Back) (t : List ℕ) → destination_of c ≡ Key.Missing → Ordered t from.used →
-    OneUndone strip number c from t from t
-undone_none strip number c from t e h =
-    record {
-      ordered = h;
-      few = omega arith;
-      rest =
-          λ ds. ap (λ (k : Key). undoing strip (named number c k ds) from.verdict from.read (postings from.used t))
-          e;
-    }
+use Rattle.storage.specs.declared.Storage.{Storage}
+use Rattle.storage.specs.Leaving.{holding, Leaves}
+use Rattle.storage.proofs.Following.{leaves_then}
+use Rattle.steps_undo.specs.Leaving.{UndoneIn, backward, as_recorded}
 
 undoing_step :
-    (strip : List ℕ) (d : Numbered) (ds : List Numbered) (v : Verdict) (read : ℕ) (ps : List Posting) →
+    (strip : List ℕ) (d : Numbered) (ds : List Numbered) (v : Result Unit Failure) (read : ℕ) (ps : List Posting) →
     undoing strip (d ∷ ds) v read ps ≡
     undoing strip ds
-    (cond (removal (byte_at strip read) d.posting ps).failed (Verdict.Refused (Answer.Undo d.number)) v) (read + 1)
+    (cond (removal (byte_at strip read) d.posting ps).failed (Err (Failure.Undo d.number)) v) (read + 1)
     (removal (byte_at strip read) d.posting ps).postings
 unfolding undoing
 undoing_step strip d ds v read ps = refl
 
--- its destination is removed by the next byte, and a failure is kept
-pub undone_one :
-    (strip : List ℕ) (number : ℕ) (c : Change) (key byte : ℕ) (from : Back) (t t' : List ℕ) (r : Removed) (b : Bool) →
-    destination_of c ≡ Key.Named key → byte ≡ byte_at strip from.read →
-    RemovalIn (removal byte (record { binding = c.binding; key = key; row = c.row }) (postings from.used t)) r t' → r.failed ≡ b →
-    OneUndone strip number c from t
-    (record
-    { verdict = cond b (Verdict.Refused (Answer.Undo number)) from.verdict; used = r.used; read = from.read + 1 })
-    t'
-undone_one strip number c key byte from t t' r b e eb o f =
-    let p : Posting = record { binding = c.binding; key = key; row = c.row } in
-    record {
-      ordered = carries_ordered _ _ _ o.carries;
-      few = omega arith;
-      rest =
-          λ ds.
-          rw e
-          (undoing_step strip (record { number = number; posting = p }) ds from.verdict from.read (postings from.used t)
-          ∙ rw (← eb, sym o.failed ∙ f, carries_postings _ _ _ o.carries));
-    }
+undoing_nothing : (strip : List ℕ) (v : Result Unit Failure) (read : ℕ) (ps : List Posting) → undoing strip [] v read ps ≡ record { verdict = v; postings = ps; read = read }
+unfolding undoing
+undoing_nothing strip v read ps = refl
 
--- a run of undo removals that has come down to i
-pub record Undoing (number : ℕ → ℕ) (cs : List Change) (strip : List ℕ) (n read used : ℕ) (t₀ t : List ℕ) (b : Back) (i : ℕ) : Type 0 where
-  pub low : i ≤ n
-  pub few : b.read + i ≤ read + n
-  pub len : length t ≡ length t₀
-  pub ordered : Ordered t b.used
-  pub is :
-      undoing strip (backward number n cs) Verdict.Passes read (postings used t₀) ≡
-      undoing strip (backward number i cs) b.verdict b.read (postings b.used t)
+-- a run that begins where so many bytes are read is the run over the bytes that are left, and has read that many more
+pub undoing_later :
+    (strip : List ℕ) (n : ℕ) (ds : List Numbered) (v : Result Unit Failure) (read : ℕ) (ps : List Posting) →
+    undoing strip ds v (n + read) ps ≡ record
+    { verdict = (undoing (drop n strip) ds v read ps).verdict; postings = (undoing (drop n strip) ds v read ps).postings; read = n + (undoing (drop n strip) ds v read ps).read }
+undoing_later strip n [] v read ps = rw (undoing_nothing strip v (n + read) ps, undoing_nothing (drop n strip) v read ps)
+undoing_later strip n (d ∷ ds) v read ps =
+    let next : n + read + 1 ≡ n + (read + 1) = omega arith in
+    let byte : byte_at (drop n strip) read ≡ byte_at strip (n + read) = get_or-drop n strip read 0 in
+    rw (undoing_step strip d ds v (n + read) ps, undoing_step (drop n strip) d ds v read ps, byte, next)
+    (undoing_later strip n ds _ (read + 1) _)
+
+-- one change is undone, and what is left to undo goes on from there
+one_more :
+    (strip : List ℕ) (number : ℕ) (c : Change) (k : Option ℕ) (ds : List Numbered) (v : Result Unit Failure) (read : ℕ) (ps : List Posting) →
+    undoing strip (named number c k ds) v read ps ≡
+    undoing strip ds (undoing (drop read strip) (named number c k []) v 0 ps).verdict
+    (read + (undoing (drop read strip) (named number c k []) v 0 ps).read)
+    (undoing (drop read strip) (named number c k []) v 0 ps).postings
+unfolding undoing
+one_more strip number c None ds v read ps = let n : read + 0 ≡ read = omega arith in rw n
+one_more strip number c (Some key) ds v read ps =
+    let n : read + 0 ≡ read = omega arith in rw (get_or-drop read strip 0 0, n)
 
 -- no change, and one change further
 pub backward_none : (number : ℕ → ℕ) (cs : List Change) → [] ≡ backward number 0 cs
@@ -93,48 +74,49 @@ unfolding backward
 backward_next number cs zero h = absurd (omega arith)
 backward_next number cs (suc i) h = let e : suc i - 1 ≡ i = omega arith in rw e
 
-module _ {number : ℕ → ℕ} {cs : List Change} {strip : List ℕ} {n read used : ℕ} {t₀ t : List ℕ} {b : Back} {i : ℕ}
-    (z : Undoing number cs strip n read used t₀ t b i) where
+-- a run of undo removals that has come down to i
+pub record Undoing (number : ℕ → ℕ) (cs : List Change) (n : ℕ) (before after : Storage) (v : Result Unit Failure) (i : ℕ) : Type 0 where
+  pub read : ℕ
+  pub leaves : Leaves before after (holding after) read
+  pub is :
+      undoing before.strip.now (backward number n cs) (Ok tt) 0 (holding before) ≡
+      undoing before.strip.now (backward number i cs) v read (holding after)
+
+module _ {number : ℕ → ℕ} {cs : List Change} {n : ℕ} {before after : Storage} {v : Result Unit Failure} {i : ℕ}
+    (z : Undoing number cs n before after v i) where
   pub undo_turn :
-      {t' : List ℕ} {b' : Back} → 0 < i → length t' ≡ length t →
-      OneUndone strip (number (i - 1)) (get_or cs (number (i - 1)) no_change) b t b' t' →
-      Undoing number cs strip n read used t₀ t' b' (i - 1)
-  undo_turn {t'} {b'} h l o =
-      let lo = z.low in
-      let fe = z.few in
-      let ofe = o.few in
+      {next : Storage} {r : Result Unit Failure} → 0 < i →
+      UndoneIn
+      (undoing after.strip.now
+      (named (number (i - 1)) (get_or cs (number (i - 1)) no_change) (destination_of (get_or cs (number (i - 1)) no_change)) [])
+      v 0 (holding after))
+      r after next →
+      Undoing number cs n before next r (i - 1)
+  undo_turn {next} {r} h o =
+      let c : Change = get_or cs (number (i - 1)) no_change in
+      let b : List ℕ = before.strip.now in
+      let here : after.strip.now ≡ drop z.read b = z.leaves.3 in
+      let u : Undone = undoing after.strip.now (named (number (i - 1)) c (destination_of c) []) v 0 (holding after) in
       record {
-        low = omega arith;
-        few = omega arith;
-        len = l ∙ z.len;
-        ordered = o.ordered;
+        read = z.read + u.read;
+        leaves = let l = leaves_then before after next z.read u.read z.leaves o.1 in (l.0, l.1, refl, l.3);
         is =
             z.is
-            ∙ (ap (λ ds. undoing strip ds b.verdict b.read (postings b.used t)) (backward_next number cs i h)
-            ∙ o.rest (backward number (i - 1) cs));
+            ∙ (ap (λ ds. undoing b ds v z.read (holding after)) (backward_next number cs i h)
+            ∙ (one_more b (number (i - 1)) c (destination_of c) (backward number (i - 1) cs) v z.read (holding after)
+            ∙ rw (← here, o.0, o.1.2) refl));
       }
 
-  pub undo_end :
-      (most : ℕ) → read + n ≤ most → i ≡ 0 →
-      UndoneIn (undoing strip (backward number n cs) Verdict.Passes read (postings used t₀)) b t most
+  pub undo_end : i ≡ 0 → UndoneIn (undoing before.strip.now (backward number n cs) (Ok tt) 0 (holding before)) v before after
   unfolding backward undoing
-  undo_end most m e =
-      let fe = z.few in
-      let w = z.is ∙ ap (λ m. undoing strip (backward number m cs) b.verdict b.read (postings b.used t)) e in
-      rw w (record { verdict = refl; carries = z.ordered; read = refl; few = omega arith })
-
--- where the run begins
-pub undo_start :
-    (number : ℕ → ℕ) (cs : List Change) (strip : List ℕ) (n read used : ℕ) (t : List ℕ) → Ordered t used →
-    Undoing number cs strip n read used t t (record { verdict = Verdict.Passes; used = used; read = read }) n
-undo_start number cs strip n read used t h =
-    record { low = omega arith; few = omega arith; len = refl; ordered = h; is = refl }
+  undo_end e =
+      rw (z.is ∙ ap (λ m. undoing before.strip.now (backward number m cs) v z.read (holding after)) e) (refl, z.leaves)
 
 -- a record from its end to its start
 named_reverse :
-    (n : ℕ) (c : Change) (k : Key) (ds : List Numbered) → reverse (named n c k ds) ≡ reverse ds ++ named n c k []
-named_reverse n c Key.Missing ds = sym (append-nil (reverse ds))
-named_reverse n c (Key.Named key) ds =
+    (n : ℕ) (c : Change) (k : Option ℕ) (ds : List Numbered) → reverse (named n c k ds) ≡ reverse ds ++ named n c k []
+named_reverse n c None ds = sym (append-nil (reverse ds))
+named_reverse n c (Some key) ds =
     reverse_aux-eq ds (record { number = n; posting = record { binding = c.binding; key = key; row = c.row } } ∷ [])
 
 backward_last :

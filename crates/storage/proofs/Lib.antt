@@ -1,2 +1,3 @@
--- The laws of one step, by its byte.
+-- What a step by its byte leaves, and steps that follow each other.
 pub mod Bytes
+pub mod Following

@@ -1,16 +1,32 @@
--- What a step leaves: the rules' own insertion and removal, seen in a lent table.
-use Rattle.std.specs.Prelude.{ℕ, ◌≡◌, List}
+-- What a step answers and leaves: the rules' own insertion and removal, seen in a lent table with its strip.
+use Rattle.std.specs.Prelude.{ℕ, ◌≡◌, Option, Some, None, Result, Ok, Err, List, length, drop, cond}
+use Rattle.rules.specs.declared.Fault.{Fault}
+use Rattle.rules.specs.declared.Posting.{Posting}
 use Rattle.rules.specs.Storage.{Insertion, Removal}
-use Rattle.table.specs.Holding.{Carries}
-use Rattle.storage.specs.declared.Inserted.{Inserted}
-use Rattle.storage.specs.declared.Removed.{Removed}
+use Rattle.rules.specs.Table.{postings}
+use Rattle.storage.specs.declared.Storage.{Storage}
 
--- an insertion in a table
-pub record InsertionIn (i : Insertion) (r : Inserted) (table : List ℕ) : Type 0 where
-  pub fault : r.fault ≡ i.fault
-  pub carries : Carries table r.used i.postings
+-- the postings of a table with its strip
+abbrev pub holding : Storage → List Posting
+holding s = postings s.used s.numbers.now
 
--- a removal in a table
-pub record RemovalIn (o : Removal) (r : Removed) (table : List ℕ) : Type 0 where
-  pub failed : r.failed ≡ o.failed
-  pub carries : Carries table r.used o.postings
+-- the same lent list, as long as it was, with these postings, and so many bytes of the strip read
+abbrev pub Leaves : Storage → Storage → List Posting → ℕ → Type 0
+Leaves before after ps read =
+    (after.numbers.ghost_name ≡ before.numbers.ghost_name)
+    × (length after.numbers.now ≡ length before.numbers.now)
+    × (holding after ≡ ps)
+    × (after.strip.now ≡ drop read before.strip.now)
+
+-- what an insertion met, as a result
+abbrev pub told_fault : Option Fault → Result Unit Fault
+told_fault None = Ok tt
+told_fault (Some fault) = Err fault
+
+-- an insertion reads one byte
+abbrev pub InsertionIn : Insertion → Result Unit Fault → Storage → Storage → Type 0
+InsertionIn i r before after = (r ≡ told_fault i.fault) × Leaves before after i.postings 1
+
+-- and so does a removal, whose one fault is the storage's
+abbrev pub RemovalIn : Removal → Result Unit Fault → Storage → Storage → Type 0
+RemovalIn o r before after = (r ≡ cond o.failed (Err Fault.Store) (Ok tt)) × Leaves before after o.postings 1

@@ -1,65 +1,55 @@
-// How storage behaves, by the next byte of the strip: one insertion, one removal. An inner layer, not delivered: a step asks for a
-// table in order (Ordered), which the checks of a whole call have tested.
+// How storage behaves, by the next byte of the strip: one insertion, one removal. An inner layer, not delivered: it is made of a table
+// in order (Ordered), which the checks of a whole call have tested.
 #![tactic(auto)]
 
-ghost use Rattle.std.specs.Prelude.{◌<◌, true};
-ghost use Rattle.rules.specs.Table.{capacity, postings};
+ghost use Rattle.strips.specs.Strips.{byte_at};
+ghost use Rattle.rules.specs.Table.{capacity};
 ghost use Rattle.rules.specs.Storage.{insertion, removal};
 ghost use Rattle.table.specs.Holding.{Ordered};
-ghost use Rattle.storage.specs.Leaving.{InsertionIn, RemovalIn};
 
 use rules::{Fault, Posting};
+use strips::next_byte;
+use table::{insert, remove};
 
-// What an insertion met, and the new used.
-#[derive(Clone, Copy)]
-pub struct Inserted {
-    pub fault: Fault,
+// A lent table in order whose storage behaves by a strip: the list, how many postings it has, and the bytes that are left. Each step
+// reads the first of them; past the end reads 0.
+#[derive(Drop)]
+pub struct Storage<'a, 's> {
+    pub numbers: &'a mut [u32],
     pub used: usize,
+    pub strip: &'s [u8],
+    ghost ordered: { Ordered numbers.now used },
 }
 
-// Whether a removal failed, and the new used.
-#[derive(Clone, Copy)]
-pub struct Removed {
-    pub failed: bool,
-    pub used: usize,
-}
+impl<'a, 's> Storage<'a, 's> {
+    ghost use Rattle.storage.specs.Leaving.{holding, InsertionIn, RemovalIn};
 
-// Byte 0 inserts, or fails full where there is no room; byte 1 or 2 fails unchanged.
-pub fn insert_by(byte: u8, table: &mut [u32], used: usize, p: Posting) -> Inserted
-    requires { Ordered table.old used }
-    ensures { InsertionIn (insertion byte (capacity table.old) p (postings used table.old)) result
-        table.new }
-{
-    if byte != 0 {
-        return Inserted {
-            fault: Fault::Store,
-            used,
-        };
+    // Byte 0 inserts, or fails full where there is no room; byte 1 or 2 fails unchanged.
+    #[tactic(auto, using(table::proofs::Keeping::carries_ordered, table::proofs::Keeping::carries_postings), unfolding(rules::specs::Storage::insertion))]
+    pub fn insert(&mut self, p: Posting) -> Result<(), Fault>
+        ensures { InsertionIn (insertion (byte_at self.old.strip.now 0) (capacity self.old.numbers.now) p (holding self.old))
+            result self.old self.new }
+    {
+        let byte = next_byte(&mut self.strip);
+        if byte != 0 {
+            return Err(Fault::Store);
+        }
+        if self.used == self.numbers.len() / 3 {
+            return Err(Fault::Full);
+        }
+        self.used = insert(self.numbers, self.used, p);
+        Ok(())
     }
-    if used < table.len() / 3 {
-        let more = table::insert(table, used, p);
-        return Inserted {
-            fault: Fault::Nothing,
-            used: more,
-        };
-    }
-    Inserted {
-        fault: Fault::Full,
-        used,
-    }
-}
 
-// Byte 0 removes; byte 1 fails unchanged; byte 2 fails with the posting gone.
-pub fn remove_by(byte: u8, table: &mut [u32], used: usize, p: Posting) -> Removed
-    requires { Ordered table.old used }
-    ensures { RemovalIn (removal byte p (postings used table.old)) result table.new }
-{
-    if byte == 1 {
-        return Removed { failed: true, used };
-    }
-    let left = table::remove(table, used, p);
-    Removed {
-        failed: byte != 0,
-        used: left,
+    // Byte 0 removes; byte 1 fails unchanged; byte 2 fails with the posting gone.
+    #[tactic(auto, using(table::proofs::Keeping::carries_ordered, table::proofs::Keeping::carries_postings), unfolding(rules::specs::Storage::removal))]
+    pub fn remove(&mut self, p: Posting) -> Result<(), Fault>
+        ensures { RemovalIn (removal (byte_at self.old.strip.now 0) p (holding self.old)) result self.old self.new }
+    {
+        let byte = next_byte(&mut self.strip);
+        if byte != 1 {
+            self.used = remove(self.numbers, self.used, p);
+        }
+        if byte == 0 { Ok(()) } else { Err(Fault::Store) }
     }
 }

@@ -1,15 +1,14 @@
--- The strip's limit apart from its bytes, the bytes that a walk has still before it, and what holds of each place of a stretch.
+-- The strip's limit apart from its bytes, these by the library's walk, and what holds of each place of a stretch.
 use Prim.Native.Nat.{ℕ, zero, suc, ◌+◌, ◌≤◌, ◌<◌}
-use native.Mathlib.Numerals.{add-one}
 use native.Mathlib.Omega.{arith}
-use mathlib.Core.Path.{◌≡◌, refl}
+use mathlib.Core.Path.{◌≡◌, refl, ap}
 use mathlib.Core.List.{List, [], ◌∷◌}
 use mathlib.Core.Bool.{Bool, true, false, ◌&&◌}
 use mathlib.Mathlib.Data.Bool.Basic.{and_elim_left, and_elim_right}
-use lib.ListN.{length, drop, get_or, drop_of_length-le}
-use lib.Seq.{drop-cons}
+use lib.ListN.{length}
 use lib.Dec.{leb, ltb}
 use borrow.Author.Tests.{le-leb, lt-leb, leb-true, ltb-true, ltb-false}
+use Rattle.std.specs.List.{list_all}
 use Rattle.strips.specs.Strips.{most_bytes, proper_bytes, proper_strip, byte_at}
 
 pub strip_over : (strip : List ℕ) → most_bytes < length strip → proper_strip strip ≡ false
@@ -20,15 +19,11 @@ pub strip_within : (strip : List ℕ) → length strip ≤ most_bytes → proper
 unfolding proper_strip
 strip_within strip h = rw (le-leb (length strip) most_bytes h)
 
-pub bytes_left :
-    (strip : List ℕ) (i : ℕ) (b : Bool) → i < length strip → leb (get_or strip i 0) 2 ≡ b →
-    proper_bytes (drop i strip) ≡ (b && proper_bytes (drop (i + 1) strip))
+-- no byte above 2, by the library's walk
+pub bytes_all : (strip : List ℕ) → list_all (λ byte. leb byte 2) strip ≡ proper_bytes strip
 unfolding proper_bytes
-bytes_left strip i b h e = rw (add-one i, drop-cons strip i 0 h, e)
-
-pub bytes_none : (strip : List ℕ) (i : ℕ) → length strip ≤ i → proper_bytes (drop i strip) ≡ true
-unfolding proper_bytes
-bytes_none strip i h = rw (drop_of_length-le strip h)
+bytes_all [] = refl
+bytes_all (b ∷ bs) = ap (λ v. leb b 2 && v) (bytes_all bs)
 
 -- a proper strip has no byte above 2
 pub byte_most : (strip : List ℕ) (i : ℕ) → proper_bytes strip ≡ true → byte_at strip i ≤ 2

@@ -1,45 +1,25 @@
--- The count of a binding and key, where a walk has come to a place: the posting read there, and the rest.
-use Prim.Native.Nat.{ℕ, ◌+◌, ◌*◌, ◌<◌, ◌≤◌}
+-- How many postings have a binding and key, row by row.
+use Prim.Native.Nat.{ℕ, ◌+◌}
 use native.Mathlib.Omega.{arith}
 use mathlib.Core.Path.{◌≡◌, refl}
-use mathlib.Core.List.{List, [], ◌∷◌}
+use mathlib.Core.List.{List, ◌∷◌, map}
 use mathlib.Core.Bool.{Bool, true, false, cond, ◌&&◌}
-use lib.ListN.{length, get_or, drop}
+use lib.ListN.{length, get_or}
 use lib.Dec.{eqb}
-use Rattle.rules.specs.declared.Posting.{Posting}
-use Rattle.rules.specs.Postings.{rows_under}
-use Rattle.rules.specs.Table.{cells, postings}
-use Rattle.table_postings.specs.Stored.{blank}
-use Rattle.table_postings.proofs.Reading.{next_left}
+use Rattle.std.specs.List.{count_by}
+use Rattle.std.proofs.lemmas.List.Recursion.{is_count_by}
+use Rattle.rules.specs.Postings.{rows_under, counted}
+use Rattle.table_postings.specs.Stored.{posting_of}
 
-module _ (t : List ℕ) (used : ℕ) (room : used * 3 ≤ length t) (i : ℕ) (h : i < used) (q : Posting)
-    (r : q ≡ get_or (cells t) i blank) where
-  pub bucket_left :
-      (binding key : ℕ) →
-      length (rows_under binding key (drop i (postings used t))) ≡
-      cond (eqb binding q.binding && eqb key q.key) 1 0 + length (rows_under binding key (drop (i + 1) (postings used t)))
-  unfolding rows_under
-  bucket_left binding key = rw (next_left t used room i h q r) (counted_head (eqb binding q.binding && eqb key q.key))
-    where
-      counted_head :
-          (b : Bool) →
-          length
-          (cond b (q.row ∷ rows_under binding key (drop (i + 1) (postings used t)))
-          (rows_under binding key (drop (i + 1) (postings used t))))
-          ≡
-          cond b 1 0 + length (rows_under binding key (drop (i + 1) (postings used t)))
-      counted_head true = omega arith
-      counted_head false = omega arith
-
-pub none_counted : (binding key : ℕ) → length (rows_under binding key []) ≡ 0
+pub counted_by :
+    (binding key : ℕ) (rows : List (List ℕ)) →
+    counted binding key (map posting_of rows) ≡ count_by (λ row. eqb binding (get_or row 0 0) && eqb key (get_or row 1 0)) rows
 unfolding rows_under
-none_counted binding key = refl
-
--- a posting counts for one, or for none
-pub one_most :
-    (binding key : ℕ) (q : Posting) {n : ℕ} → n ≡ cond (eqb binding q.binding && eqb key q.key) 1 0 → n ≤ 1
-one_most binding key q {n} e = go (eqb binding q.binding && eqb key q.key) e
+counted_by binding key =
+    is_count_by (λ rows. counted binding key (map posting_of rows)) (λ row. eqb binding (get_or row 0 0) && eqb key (get_or row 1 0)) refl
+    λ row rows.
+    one_more (eqb binding (get_or row 0 0) && eqb key (get_or row 1 0)) (get_or row 2 0) (rows_under binding key (map posting_of rows))
   where
-    go : (b : Bool) → n ≡ cond b 1 0 → n ≤ 1
-    go true f = omega arith
-    go false f = omega arith
+    one_more : (b : Bool) (row : ℕ) (l : List ℕ) → length (cond b (row ∷ l) l) ≡ cond b (1 + length l) (length l)
+    one_more true row l = omega arith
+    one_more false row l = refl

@@ -1,12 +1,12 @@
 -- A table that carries its postings carries them after an insertion and after a removal.
+use Rattle.std.proofs.Common.{Ok, Err}
 use Prim.Native.Nat.{ℕ, suc, ◌+◌, ◌-◌, ◌*◌, ◌<◌, ◌≤◌}
 use native.Mathlib.Omega.{arith}
 use mathlib.Core.Path.{◌≡◌, sym, ap, ◌∙◌}
 use mathlib.Core.List.{List, ◌∷◌, ◌++◌}
 use mathlib.Core.Bool.{true}
 use lib.ListN.{length, take, drop, length-append, length-drop}
-use lib.Seq.{length-take-le}
-use Rattle.lent_lists.specs.Raised.{raised}
+use lib.Seq.{paste, length-take-le}
 use Rattle.rules.specs.declared.Head.{Head}
 use Rattle.rules.specs.declared.Posting.{Posting}
 use Rattle.rules.specs.Postings.{ascending, inserted, removed}
@@ -15,9 +15,7 @@ use Rattle.laws.proofs.Lists.{length_inserted}
 use Rattle.laws.proofs.Sorted.{ascending_inserted, ascending_removed}
 use Rattle.laws.proofs.Flat.{well_formed_parts, used_postings, laid_out_same, postings_laid_out, length_laid_out}
 use Rattle.table_postings.specs.Stored.{blank, stored}
-use Rattle.table.specs.declared.Place.{Place}
 use Rattle.table.specs.Holding.{Carries, Ordered, place_of}
-use Rattle.table.specs.Shifts.{lowered}
 use Rattle.table.proofs.Places.{gap_most, at_inside, gap_absent, inserted_in_gap, inserted_found, removed_found, removed_from_gap}
 use Rattle.table.proofs.Moves.{opened, closed}
 
@@ -49,21 +47,15 @@ laid_carries t x ps used e room sorted laid =
     record { count = e; room = rw long room; sorted = sorted; laid = rw long laid }
 
 module _ (t : List ℕ) (used : ℕ) (p : Posting) (at : ℕ) (h : Ordered t used) where
-  pub inserted_kept : place_of p (postings used t) ≡ Place.At at → Carries t used (inserted p (postings used t))
+  pub inserted_kept : place_of p (postings used t) ≡ Ok at → Carries t used (inserted p (postings used t))
   inserted_kept e = rw (inserted_found p (postings used t) at h.sorted e) h
 
-  pub removed_kept : place_of p (postings used t) ≡ Place.Gap at → Carries t used (removed p (postings used t))
+  pub removed_kept : place_of p (postings used t) ≡ Err at → Carries t used (removed p (postings used t))
   removed_kept e = rw (removed_from_gap p (postings used t) at h.sorted e) h
 
-  pub gap_low : place_of p (postings used t) ≡ Place.Gap at → at ≤ used
-  gap_low e = rw h.count (gap_most p (postings used t) at e)
-
-  pub at_low : place_of p (postings used t) ≡ Place.At at → at < used
-  at_low e = rw h.count (at_inside p (postings used t) at h.sorted e)
-
   pub inserted_carries :
-      (x y : List ℕ) → place_of p (postings used t) ≡ Place.Gap at → used * 3 + 3 ≤ length t →
-      x ≡ raised 3 (at * 3) (used * 3) t → y ≡ stored (at * 3) p x → Carries y (used + 1) (inserted p (postings used t))
+      (x y : List ℕ) → place_of p (postings used t) ≡ Err at → used * 3 + 3 ≤ length t →
+      x ≡ paste t (at * 3 + 3) (drop (at * 3) t) (used * 3 - at * 3) → y ≡ stored (at * 3) p x → Carries y (used + 1) (inserted p (postings used t))
   inserted_carries x y e room ex ey =
       let ps : List Posting = postings used t in
       let n : used ≡ length ps = h.count in
@@ -74,13 +66,13 @@ module _ (t : List ℕ) (used : ℕ) (p : Posting) (at : ℕ) (h : Ordered t use
       (ascending_inserted p ps h.sorted)
       (ey
       ∙ (ap (stored (at * 3) p) ex
-      ∙ (ap (λ (l : List ℕ). stored (at * 3) p (raised 3 (at * 3) (used * 3) l)) h.laid
-      ∙ (ap (λ (m : ℕ). stored (at * 3) p (raised 3 (at * 3) (m * 3) (laid_out (length t) ps))) n
+      ∙ (ap (λ (l : List ℕ). stored (at * 3) p (paste l (at * 3 + 3) (drop (at * 3) l) (used * 3 - at * 3))) h.laid
+      ∙ (ap (λ (m : ℕ). stored (at * 3) p (paste (laid_out (length t) ps) (at * 3 + 3) (drop (at * 3) (laid_out (length t) ps)) (m * 3 - at * 3))) n
       ∙ (opened ps (length t) at p low (omega arith) ∙ ap (laid_out (length t)) (sym new))))))
 
   pub removed_carries :
-      (x y : List ℕ) → place_of p (postings used t) ≡ Place.At at →
-      x ≡ lowered (at * 3) (used * 3) t → y ≡ stored ((used - 1) * 3) blank x → Carries y (used - 1) (removed p (postings used t))
+      (x y : List ℕ) → place_of p (postings used t) ≡ Ok at →
+      x ≡ paste t (at * 3) (drop (at * 3 + 3) t) (used * 3 - (at * 3 + 3)) → y ≡ stored ((used - 1) * 3) blank x → Carries y (used - 1) (removed p (postings used t))
   removed_carries x y e ex ey =
       let ps : List Posting = postings used t in
       let n : used ≡ length ps = h.count in
@@ -96,6 +88,6 @@ module _ (t : List ℕ) (used : ℕ) (p : Posting) (at : ℕ) (h : Ordered t use
       laid_carries t y (removed p ps) (used - 1) (omega arith) (omega arith) (ascending_removed p ps h.sorted)
       (ey
       ∙ (ap (stored ((used - 1) * 3) blank) ex
-      ∙ (ap (λ (l : List ℕ). stored ((used - 1) * 3) blank (lowered (at * 3) (used * 3) l)) h.laid
-      ∙ (ap (λ (m : ℕ). stored ((m - 1) * 3) blank (lowered (at * 3) (m * 3) (laid_out (length t) ps))) n
+      ∙ (ap (λ (l : List ℕ). stored ((used - 1) * 3) blank (paste l (at * 3) (drop (at * 3 + 3) l) (used * 3 - (at * 3 + 3)))) h.laid
+      ∙ (ap (λ (m : ℕ). stored ((m - 1) * 3) blank (paste (laid_out (length t) ps) (at * 3) (drop (at * 3 + 3) (laid_out (length t) ps)) (m * 3 - (at * 3 + 3)))) n
       ∙ (closed ps (length t) at inside (omega arith) ∙ ap (laid_out (length t)) (sym fewer))))))

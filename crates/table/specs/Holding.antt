@@ -1,9 +1,8 @@
 -- What a step on the table needs and keeps, and where a posting stands.
-use Rattle.std.specs.Prelude.{ℕ, suc, ◌*◌, ◌≤◌, ◌≡◌, List, [], ◌∷◌, true, cond, length}
+use Rattle.std.specs.Prelude.{ℕ, suc, ◌*◌, ◌≤◌, ◌≡◌, List, [], ◌∷◌, true, cond, length, Result, Ok, Err}
 use Rattle.rules.specs.declared.Posting.{Posting}
 use Rattle.rules.specs.Postings.{compared, is_before, ascending, present}
 use Rattle.rules.specs.Table.{postings, laid_out}
-use Rattle.table.specs.declared.Place.{Place}
 
 -- the table has these postings, ascending, then zeros, and used is how many they are
 pub record Carries (table : List ℕ) (used : ℕ) (ps : List Posting) : Type 0 where
@@ -22,5 +21,5 @@ earlier p [] = 0
 earlier p (q ∷ qs) = cond (is_before (compared q p)) (suc (earlier p qs)) (earlier p qs)
 
 -- p stands past so many others, or would
-unfoldable pub place_of : Posting → List Posting → Place
-place_of p ps = cond (present p ps) (Place.At (earlier p ps)) (Place.Gap (earlier p ps))
+unfoldable pub place_of : Posting → List Posting → Result ℕ ℕ
+place_of p ps = cond (present p ps) (Ok (earlier p ps)) (Err (earlier p ps))

@@ -1,3 +1,2 @@
 -- What the contracts of `table` speak of.
 pub mod Holding
-pub mod Shifts

@@ -1,105 +1,91 @@
-// The posting table over a lent list of numbers, three to a posting: find, insertion, removal, count. An inner layer, not
-// delivered: `find`, `stands`, `insert` and `remove` ask for a table in order (Ordered), which `table_checks` has tested once for a
-// whole call.
+// The posting table over a lent list of numbers, three to a posting: found, inserted, removed, counted. An inner layer, not
+// delivered: it asks for a table in order (Ordered), which `table_checks` has tested once for a whole call.
 #![tactic(auto)]
 
-ghost use Rattle.std.specs.Prelude.{◌*◌, ◌+◌, ◌<◌, ◌≤◌, ◌≡◌, cond, ◌&&◌, length, eqb};
-ghost use Rattle.lent_lists.specs.Raised.{raised};
+ghost use Rattle.std.specs.Prelude.{◌*◌, ◌+◌, ◌<◌, ◌≤◌, ◌≡◌, length};
+ghost use Rattle.std.specs.List.Sorted.{IsSearchInRange};
 ghost use Rattle.rules.specs.Postings.{present, inserted, removed, counted};
 ghost use Rattle.rules.specs.Table.{capacity, postings};
 ghost use Rattle.table.specs.Holding.{Carries, Ordered, place_of};
-ghost use Rattle.table.specs.Shifts.{lowered};
 
-use rules::{Order, Posting};
-use table_postings::{compare, read, write};
+use rules::Posting;
+use std::marker::Model;
+use table_postings::{compare, posting, rows, write};
 
-// Where a posting stands: at a place, or in the gap before one.
-#[derive(Clone, Copy)]
-pub enum Place {
-    At(usize),
-    Gap(usize),
+// The postings of a table, to be read.
+#[derive(Drop)]
+pub struct Postings<'a> {
+    rows: &'a [[u32; 3]],
 }
 
-// Where a posting stands, or would: a search by halves.
-pub fn find(table: &[u32], used: usize, p: Posting) -> Place
-    requires { Ordered table.now used }
-    ensures { result ≡ place_of p (postings used table.now) }
-{
-    let mut low = 0;
-    let mut high = used;
-    while low < high {
-        let middle = low + (high - low) / 2;
-        match compare(read(table, middle), p) {
-            Order::Before => low = middle + 1,
-            Order::Same => return Place::At(middle),
-            Order::After => high = middle,
+impl<'a> Model for Postings<'a> {
+    ghost use Rattle.std.specs.Prelude.{◌≡◌, List, true, map};
+    ghost use Rattle.rules.specs.declared.Posting.{Posting};
+    ghost use Rattle.rules.specs.Postings.{ascending};
+    ghost use Rattle.table_postings.specs.Stored.{posting_of};
+
+    ghost Value = { List Posting };
+
+    ghost view = { λ t. map posting_of t.rows.now };
+
+    ghost invariant = { λ t. ascending (map posting_of t.rows.now) ≡ true };
+}
+
+impl<'a> Postings<'a> {
+    // Those that a table in order has.
+    pub fn new(numbers: &'a [u32], used: usize) -> Postings<'a>
+        requires { Ordered numbers.now used }
+        ensures { result ≡ postings used numbers.now }
+    {
+        Postings {
+            rows: rows(numbers, used),
         }
     }
-    Place::Gap(low)
-}
 
-// The posting stands in the table.
-pub fn stands(table: &[u32], used: usize, p: Posting) -> bool
-    requires { Ordered table.now used }
-    ensures { result ≡ present p (postings used table.now) }
-{
-    match find(table, used, p) {
-        Place::At(_) => true,
-        Place::Gap(_) => false,
+    // Where a posting stands, or would.
+    pub fn find(&self, p: Posting) -> Result<usize, usize>
+        ensures { (result ≡ place_of p self.now) × IsSearchInRange result (length self.now) }
+    {
+        self.rows.binary_search_by(|row| compare(posting(row), p))
+    }
+
+    // The posting stands in the table.
+    #[tactic(auto, using(crate::proofs::Places::found_present))]
+    pub fn contains(&self, p: Posting) -> bool
+        ensures { result ≡ present p self.now }
+    {
+        self.find(p).is_ok()
     }
 }
 
-// The numbers from one place up to another go up by one posting; the three that they leave stay as they were.
-fn raise(table: &mut [u32], from: usize, to: usize)
-    requires { (from ≤ to) × (to + 3 ≤ length table.old) }
-    ensures { table.new ≡ raised 3 from to table.old }
+// The posting at its place, those after it one further, and the new used. A table that has it stays. This and `remove` go by the lent
+// list and how many it has: as methods of a struct inside `Storage` they were tried, and what a `&mut` two structs deep leaves does not
+// come back to the lent list in the proof.
+pub fn insert(numbers: &mut [u32], used: usize, p: Posting) -> usize
+    requires { Ordered numbers.old used × (used < capacity numbers.old) }
+    ensures { Carries numbers.new result (inserted p (postings used numbers.old)) }
 {
-    let mut k = to;
-    while k > from {
-        table[k + 2] = table[k - 1];
-        k -= 1;
-    }
-}
-
-// The numbers from three past one place up to another go down by one posting; the last three stay where they were too.
-fn lower(table: &mut [u32], from: usize, to: usize)
-    requires { (from + 3 ≤ to) × (to ≤ length table.old) }
-    ensures { table.new ≡ lowered from to table.old }
-{
-    let last = to - 3;
-    let mut k = from;
-    while k < last {
-        table[k] = table[k + 3];
-        k += 1;
-    }
-}
-
-// The posting at its place, those after it one further, and the new used. A table that has it stays.
-pub fn insert(table: &mut [u32], used: usize, p: Posting) -> usize
-    requires { Ordered table.old used × (used < capacity table.old) }
-    ensures { Carries table.new result (inserted p (postings used table.old)) }
-{
-    match find(table, used, p) {
-        Place::At(_) => used,
-        Place::Gap(at) => {
-            raise(table, at * 3, used * 3);
-            write(table, at, p);
+    match Postings::new(numbers, used).find(p) {
+        Ok(_) => used,
+        Err(at) => {
+            numbers.copy_within(at * 3..used * 3, at * 3 + 3);
+            write(numbers, at, p);
             used + 1
         }
     }
 }
 
 // The posting gone, those after it one back, zeros in the place set free, and the new used. A table that lacks it stays.
-pub fn remove(table: &mut [u32], used: usize, p: Posting) -> usize
-    requires { Ordered table.old used }
-    ensures { Carries table.new result (removed p (postings used table.old)) }
+pub fn remove(numbers: &mut [u32], used: usize, p: Posting) -> usize
+    requires { Ordered numbers.old used }
+    ensures { Carries numbers.new result (removed p (postings used numbers.old)) }
 {
-    match find(table, used, p) {
-        Place::Gap(_) => used,
-        Place::At(at) => {
-            lower(table, at * 3, used * 3);
+    match Postings::new(numbers, used).find(p) {
+        Err(_) => used,
+        Ok(at) => {
+            numbers.copy_within(at * 3 + 3..used * 3, at * 3);
             write(
-                table,
+                numbers,
                 used - 1,
                 Posting {
                     binding: 0,
@@ -112,28 +98,13 @@ pub fn remove(table: &mut [u32], used: usize, p: Posting) -> usize
     }
 }
 
-// 1 where the posting has this binding and key, else 0.
-fn hit(p: Posting, binding: u32, key: u32) -> usize
-    ensures { result ≡ cond (eqb binding p.binding && eqb key p.key) 1 0 }
-{
-    if binding == p.binding {
-        if key == p.key {
-            return 1;
-        }
-    }
-    0
-}
-
 // How many postings have this binding and key.
-pub fn count_postings(table: &[u32], used: usize, binding: u32, key: u32) -> usize
-    requires { used * 3 ≤ length table.now }
-    ensures { result ≡ counted binding key (postings used table.now) }
+pub fn count_postings(numbers: &[u32], used: usize, binding: u32, key: u32) -> usize
+    requires { used * 3 ≤ length numbers.now }
+    ensures { result ≡ counted binding key (postings used numbers.now) }
 {
-    let mut n = 0;
-    let mut i = 0;
-    while i < used {
-        n += hit(read(table, i), binding, key);
-        i += 1;
-    }
-    n
+    rows(numbers, used)
+        .iter()
+        .filter(|row| binding == row[0] && key == row[1])
+        .count()
 }

@@ -1,3 +1,2 @@
--- The laws of one posting in a table's numbers: which one lies at a place, and what is left of the postings from there on.
+-- The laws of one posting in a table's numbers: which row it lies in, and what storing one leaves.
 pub mod Cells
-pub mod Reading

@@ -1,71 +1,39 @@
-// One posting of the posting table: compared with another, read at a place, written there. A part of the table: `table` moves
-// postings by it, `table_checks` tests them. An inner layer, not delivered: `read` and `write` ask for a place that is there.
+// One posting of the posting table: compared with another, read from its row of three numbers, written at a place. A part of the
+// table: `table` finds and moves postings by it, `table_checks` tests them. An inner layer, not delivered: `rows` and `write` ask
+// for places that are there.
 #![tactic(auto)]
 
-ghost use Rattle.std.specs.Prelude.{◌*◌, ◌+◌, ◌≤◌, ◌≡◌, length, get_or};
-ghost use Rattle.rules.specs.Postings.{ranked, compared, is_before, same};
-ghost use Rattle.rules.specs.Table.{cells};
-ghost use Rattle.table_postings.specs.Stored.{blank, stored};
+ghost use Rattle.std.specs.Prelude.{◌*◌, ◌+◌, ◌≤◌, ◌≡◌, length, map};
+ghost use Rattle.rules.specs.Postings.{compared};
+ghost use Rattle.rules.specs.Table.{postings};
+ghost use Rattle.table_postings.specs.Stored.{posting_of, stored};
 
-use rules::{Order, Posting};
-
-// Two numbers first, and where they are equal what comes next decides.
-fn rank(a: u32, b: u32, next: Order) -> Order
-    ensures { result ≡ ranked a b next }
-{
-    if a < b {
-        return Order::Before;
-    }
-    if b < a {
-        return Order::After;
-    }
-    next
-}
+use rules::Posting;
+use std::cmp::Ordering;
 
 // By binding, key, row.
-pub fn compare(p: Posting, q: Posting) -> Order
+#[tactic(auto, using(laws::proofs::Ranks::derived_order))]
+pub fn compare(p: Posting, q: Posting) -> Ordering
     ensures { result ≡ compared p q }
 {
-    rank(
-        p.binding,
-        q.binding,
-        rank(p.key, q.key, rank(p.row, q.row, Order::Same)),
-    )
+    p.cmp(&q)
 }
 
-// One and the same posting.
-pub fn equal(p: Posting, q: Posting) -> bool
-    ensures { result ≡ same p q }
+// The posting whose numbers these are. With `write` the one that knows how a posting lies in the table.
+pub fn posting(row: &[u32; 3]) -> Posting
+    ensures { result ≡ posting_of row.now }
 {
-    match compare(p, q) {
-        Order::Before => false,
-        Order::Same => true,
-        Order::After => false,
-    }
+    let [binding, key, row] = *row;
+    Posting { binding, key, row }
 }
 
-// The first stands before the second.
-pub fn before(p: Posting, q: Posting) -> bool
-    ensures { result ≡ is_before (compared p q) }
+// The rows of the postings in use.
+pub fn rows(table: &[u32], used: usize) -> &[[u32; 3]]
+    requires { used * 3 ≤ length table.now }
+    ensures { map posting_of result.now ≡ postings used table.now }
 {
-    match compare(p, q) {
-        Order::Before => true,
-        Order::Same => false,
-        Order::After => false,
-    }
-}
-
-// The posting at a place. With `write` the one that knows how a posting lies in the table.
-pub fn read(table: &[u32], at: usize) -> Posting
-    requires { at * 3 + 3 ≤ length table.now }
-    ensures { result ≡ get_or (cells table.now) at blank }
-{
-    let first = at * 3;
-    Posting {
-        binding: table[first],
-        key: table[first + 1],
-        row: table[first + 2],
-    }
+    let (rows, _) = table.as_chunks::<3>();
+    &rows[..used]
 }
 
 // A posting written at a place.
@@ -74,7 +42,5 @@ pub fn write(table: &mut [u32], at: usize, p: Posting)
     ensures { table.new ≡ stored (at * 3) p table.old }
 {
     let first = at * 3;
-    table[first] = p.binding;
-    table[first + 1] = p.key;
-    table[first + 2] = p.row;
+    table[first..first + 3].copy_from_slice(&[p.binding, p.key, p.row]);
 }

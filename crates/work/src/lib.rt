@@ -3,121 +3,142 @@
 #![tactic(auto)]
 
 ghost use Rattle.std.specs.Prelude.{◌≤◌, ◌<◌, ◌^◌, ◌≡◌, [], true, cond, length, ltb};
-ghost use Rattle.rules.specs.declared.Answer.{Answer};
-ghost use Rattle.rules.specs.Limits.{most_changes};
 ghost use Rattle.rules.specs.Postings.{every, counted};
 ghost use Rattle.rules.specs.Table.{postings, well_formed};
-ghost use Rattle.rules.specs.Orders.{changes};
+ghost use Rattle.rules.specs.Orders.{changes, destinations, sources};
 ghost use Rattle.rules.specs.Answers.{poisons};
-ghost use Rattle.rules.specs.Calls.{head_with, outcome_of, prepare_work, rollback_work, removal_work, publish_work};
+ghost use Rattle.rules.specs.Publication.{then_sources};
+ghost use Rattle.rules.specs.Calls.{head_with, record_after, outcome_of, prepare_work, rollback_work, removal_work, publish_work};
+ghost use Rattle.steps.specs.Leaving.{StageIn};
+ghost use Rattle.work.specs.Bringing.{brought};
 
-use answers::{flag_after, is_accepted, settle};
+use answers::flag_after;
+use changes::Changes;
 use rules::{Answer, Done, Head};
-use steps::Reached;
 use steps_sources::{remove_sources, write_record};
+use storage::Storage;
+use table::count_postings;
 
 // The answer that was reached, and the head beside the table as it now is.
-fn done(head: Head, reached: Reached) -> Done
-    requires { reached.used < 2 ^ 32 }
-    ensures { result ≡ record
-        { head = head_with head reached.used (cond (poisons reached.answer) 1 head.poisoned); answer = reached.answer } }
+fn done(head: Head, used: usize, answer: Answer) -> Done
+    requires { used < 2 ^ 32 }
+    ensures { result ≡ record { head = head_with head used (cond (poisons answer) 1 head.poisoned); answer = answer } }
 {
-    let answer = reached.answer;
     Done {
         head: Head {
-            bindings: head.bindings,
-            used: reached.used as u32,
+            used: used as u32,
             poisoned: flag_after(answer, head.poisoned),
+            ..head
         },
         answer,
     }
 }
 
-// The record is written only after the last insertion.
-pub fn prepare(
-    head: Head,
-    table: &mut [u32],
-    list: &[u32],
-    strip: &[u8],
-    record: &mut [u32],
-) -> Done
-    requires table_formed { well_formed head table.old ≡ true }
-    requires within_limits { (length (changes list.now) ≤ most_changes) × (length (changes list.now) ≤ length «record».old) }
-    ensures { outcome_of result table.new «record».new ≡ prepare_work head table.old (changes list.now)
-        strip.now «record».old }
+// The lent table of a well-formed head, with the strip by which its storage behaves. Head and table come from C apart, and what was
+// checked of them is asked for in each call and used here once: a type that has it would be made by the checks only to be taken apart.
+fn stored<'a, 's>(head: Head, table: &'a mut [u32], strip: &'s [u8]) -> Storage<'a, 's>
+    requires { well_formed head table.old ≡ true }
+    ensures same_reference { result.numbers.ghost_name ≡ table.entry.ghost_name }
+    ensures same_numbers { result.numbers.now ≡ table.old }
+    ensures used { result.used ≡ head.used }
+    ensures strip { result.strip.now ≡ strip.now }
 {
-    let inserted = steps::prepare(table, list, strip, head.used as usize);
-    let answer = inserted.answer;
-    if is_accepted(answer) {
-        write_record(list, record);
+    Storage {
+        numbers: table,
+        used: head.used as usize,
+        strip,
     }
-    done(head, inserted)
+}
+
+// The destinations come in. The record is written only after the last insertion. That it has room is asked for from the check down to
+// the one write: a type of list and record would be made for that alone.
+fn bring(storage: &mut Storage, list: Changes, record: &mut [u32]) -> Answer
+    requires { length (changes list.numbers.now) ≤ length «record».old }
+    ensures stage { StageIn (brought storage.old (changes list.entry.numbers.now)) result storage.old storage.new }
+    ensures record_list { «record».new ≡ record_after (brought storage.old (changes list.entry.numbers.now))
+        (destinations (changes list.entry.numbers.now)) «record».old }
+{
+    let inserted = steps::prepare(storage, list)?;
+    write_record(list, record);
+    Ok(inserted)
 }
 
 // Sources stay until every destination is in.
-pub fn publish(
+fn bring_and_clear(storage: &mut Storage, list: Changes, record: &mut [u32]) -> Answer
+    requires { length (changes list.numbers.now) ≤ length «record».old }
+    ensures stage { StageIn
+        (then_sources storage.old.strip.now (sources (changes list.entry.numbers.now))
+        (brought storage.old (changes list.entry.numbers.now)))
+        result storage.old storage.new }
+    ensures record_list { «record».new ≡ record_after (brought storage.old (changes list.entry.numbers.now))
+        (destinations (changes list.entry.numbers.now)) «record».old }
+{
+    let inserted = bring(storage, list, record)?;
+    remove_sources(storage, list, Ok(inserted))
+}
+
+// Accepted where every destination came in.
+pub fn prepare(
     head: Head,
     table: &mut [u32],
-    list: &[u32],
+    list: Changes,
     strip: &[u8],
     record: &mut [u32],
 ) -> Done
     requires table_formed { well_formed head table.old ≡ true }
-    requires within_limits { (length (changes list.now) ≤ most_changes) × (length (changes list.now) ≤ length «record».old) }
-    ensures { outcome_of result table.new «record».new ≡ publish_work head table.old (changes list.now)
+    requires places { length (changes list.numbers.now) ≤ length «record».old }
+    ensures { outcome_of result table.new «record».new ≡ prepare_work head table.old (changes list.entry.numbers.now)
         strip.now «record».old }
 {
-    let brought = steps::prepare(table, list, strip, head.used as usize);
-    let answer = brought.answer;
-    if is_accepted(answer) {
-        write_record(list, record);
-        let cleared = remove_sources(table, list, strip, answer, brought.used, brought.read);
-        return done(head, cleared);
-    }
-    done(head, brought)
+    let mut storage = stored(head, table, strip);
+    let answer = bring(&mut storage, list, record);
+    done(head, storage.used, answer)
+}
+
+// Accepted where every destination came in and every source went.
+pub fn publish(
+    head: Head,
+    table: &mut [u32],
+    list: Changes,
+    strip: &[u8],
+    record: &mut [u32],
+) -> Done
+    requires table_formed { well_formed head table.old ≡ true }
+    requires places { length (changes list.numbers.now) ≤ length «record».old }
+    ensures { outcome_of result table.new «record».new ≡ publish_work head table.old (changes list.entry.numbers.now)
+        strip.now «record».old }
+{
+    let mut storage = stored(head, table, strip);
+    let answer = bring_and_clear(&mut storage, list, record);
+    done(head, storage.used, answer)
 }
 
 // Accepted where no removal failed, else 12 with the last change whose removal did.
-pub fn rollback(head: Head, table: &mut [u32], list: &[u32], strip: &[u8], record: &[u32]) -> Done
+pub fn rollback(head: Head, table: &mut [u32], list: Changes, strip: &[u8], record: &[u32]) -> Done
     requires table_formed { well_formed head table.old ≡ true }
-    requires within_limits { length (changes list.now) ≤ most_changes }
-    requires record_in_bounds { every (λ n. ltb n (length (changes list.now))) «record».now ≡ true }
-    ensures { outcome_of result table.new «record».now ≡ rollback_work head table.old (changes list.now)
+    requires record_in_bounds { every (λ n. ltb n (length (changes list.numbers.now))) «record».now ≡ true }
+    ensures { outcome_of result table.new «record».now ≡ rollback_work head table.old (changes list.entry.numbers.now)
         strip.now «record».now }
 {
-    let back = steps_undo::rollback(table, list, strip, record, head.used as usize);
-    let verdict = back.verdict;
-    done(
-        head,
-        Reached {
-            answer: settle(verdict, Answer::Accepted(0)),
-            used: back.used,
-            read: back.read,
-        },
-    )
+    let mut storage = stored(head, table, strip);
+    let undone = steps_undo::rollback(&mut storage, list, record);
+    done(head, storage.used, undone.and(Ok(0)))
 }
 
 // Accepted where no removal failed, else 13 with the change whose removal did.
-pub fn remove(head: Head, table: &mut [u32], list: &[u32], strip: &[u8]) -> Done
-    requires table_formed { well_formed head table.old ≡ true }
-    requires within_limits { length (changes list.now) ≤ most_changes }
-    ensures { outcome_of result table.new [] ≡ removal_work head table.old (changes list.now) strip.now [] }
+pub fn remove(head: Head, table: &mut [u32], list: Changes, strip: &[u8]) -> Done
+    requires { well_formed head table.old ≡ true }
+    ensures { outcome_of result table.new [] ≡ removal_work head table.old (changes list.entry.numbers.now) strip.now [] }
 {
-    let cleared = remove_sources(
-        table,
-        list,
-        strip,
-        Answer::Accepted(0),
-        head.used as usize,
-        0,
-    );
-    done(head, cleared)
+    let mut storage = stored(head, table, strip);
+    let answer = remove_sources(&mut storage, list, Ok(0));
+    done(head, storage.used, answer)
 }
 
 // The number of postings, which fits: a table has at most 4,096.
-pub fn count(head: Head, table: &[u32], binding: u32, key: u32) -> Answer
+pub fn count(head: Head, table: &[u32], binding: u32, key: u32) -> u32
     requires { well_formed head table.now ≡ true }
-    ensures { result ≡ Answer.Accepted (counted binding key (postings head.used table.now)) }
+    ensures { result ≡ counted binding key (postings head.used table.now) }
 {
-    Answer::Accepted(table::count_postings(table, head.used as usize, binding, key) as u32)
+    count_postings(table, head.used as usize, binding, key) as u32
 }

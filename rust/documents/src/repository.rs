@@ -172,7 +172,7 @@ fn declared_name(line: &str) -> Option<&str> {
         .skip_while(|word| before_it.contains(word));
     match (words.next()?, words.next()?) {
         ("record" | "data", name) | (name, ":") => Some(name),
-        ("fn" | "struct" | "enum" | "const", name) => name.split(['(', ':']).next(),
+        ("fn" | "struct" | "enum" | "const", name) => name.split(['(', ':', '<']).next(),
         _ => None,
     }
 }

@@ -56,7 +56,7 @@ fn documents_cite_enough() {
 /// How many names each line cites. All of them are there.
 const RIGHT: &str = "\
 2 `held_at`, `at_held` (laws, Names)
-2 `compare` and `after_trying` (passes, src)
+2 `compare` and `cached_pass` (passes, src)
 2 (`told_injective` (laws, Answers)), not `this`; `check_guards` (checks, src), not `that` (or that)
 2 `prepare_clauses` .ok_record, .ok_named, `prefix_record` (history, Upstream)
 1 `refreshed_clauses` .pass .valid, .pass .yes, .yes_same (lane_laws, Upstream)

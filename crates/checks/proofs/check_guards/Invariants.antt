@@ -1,17 +1,10 @@
--- `check_guards` walks the changes: at each turn what the whole list is answered is what the rest is.
-use Prim.Native.Nat.{◌-◌, ◌≤◌}
-use mathlib.Core.Path.{◌≡◌}
-use lib.ListN.{drop}
-use Rattle.rules.specs.Checks.{first_failing, guarded}
+-- At each turn what the whole list is answered is what the rest is.
+use Rattle.std.proofs.Common.{◌≡◌, drop}
 use Rattle.rules.specs.Orders.{changes, guards}
-use Rattle.rules.specs.declared.Answer.{Answer}
+use Rattle.rules.specs.Checks.{guard_check}
+use Rattle.checks.proofs.Failing.{guards_from}
 use Rattle.checks.proofs.check_guards.Given as goal
 
 abbrev pub invariant-loop-i : goal.invariant-loop-i
 invariant-loop-i l =
-    (l.i ≤ l.n) ×
-    (first_failing (guarded l.bindings (guards l.pairs)) (λ i change. Answer.Guard i) 0 (changes l.list) ≡ first_failing
-    (guarded l.bindings (guards l.pairs)) (λ i change. Answer.Guard i) l.i (drop l.i (changes l.list)))
-
-abbrev pub decreases-loop-i : goal.decreases-loop-i
-decreases-loop-i l = l.n - l.i
+    guard_check l.bindings (guards l.pairs) (changes l.list.numbers.now) ≡ guards_from l.bindings (guards l.pairs) l.i (drop l.i (changes l.list.numbers.now))

@@ -1,18 +1,10 @@
--- `check_overlap` walks the changes: at each turn what all sources are answered is what the rest are.
-use Prim.Native.Nat.{◌-◌, ◌≤◌}
-use mathlib.Core.Path.{◌≡◌}
-use lib.ListN.{drop}
-use Rattle.rules.specs.Orders.{changes, destinations, sources_from, sources, postings_of}
-use Rattle.rules.specs.Postings.{present}
-use Rattle.rules.specs.declared.Answer.{Answer}
-use Rattle.clashes.proofs.Named.{first_of}
+-- At each turn what all sources are answered is what the rest are.
+use Rattle.std.proofs.Common.{◌≡◌, drop}
+use Rattle.rules.specs.Orders.{changes, destinations, postings_of}
+use Rattle.rules.specs.Checks.{overlap_check}
+use Rattle.clashes.proofs.Named.{overlaps_from}
 use Rattle.clashes.proofs.check_overlap.Given as goal
 
 abbrev pub invariant-loop-i : goal.invariant-loop-i
 invariant-loop-i l =
-    (l.i ≤ l.n) ×
-    (first_of (λ s. present s (postings_of (destinations (changes l.list)))) Answer.Overlap (sources (changes l.list)) ≡ first_of
-    (λ s. present s (postings_of (destinations (changes l.list)))) Answer.Overlap (sources_from l.i (drop l.i (changes l.list))))
-
-abbrev pub decreases-loop-i : goal.decreases-loop-i
-decreases-loop-i l = l.n - l.i
+    overlap_check (changes l.list.numbers.now) ≡ overlaps_from (postings_of (destinations (changes l.list.numbers.now))) l.i (drop l.i (changes l.list.numbers.now))

@@ -1,19 +1,10 @@
--- `check_present` walks the changes: at each turn what all destinations are answered is what the rest are.
-use Prim.Native.Nat.{◌-◌, ◌≤◌}
-use mathlib.Core.Path.{◌≡◌}
-use lib.ListN.{drop}
-use Rattle.rules.specs.Orders.{changes, destinations_from, destinations}
-use Rattle.rules.specs.Postings.{present}
-use Rattle.rules.specs.Table.{postings}
-use Rattle.rules.specs.declared.Answer.{Answer}
-use Rattle.clashes.proofs.Named.{first_of}
+-- At each turn what all destinations are answered is what the rest are.
+use Rattle.std.proofs.Common.{◌≡◌, drop}
+use Rattle.rules.specs.Orders.{changes}
+use Rattle.rules.specs.Checks.{present_check}
+use Rattle.clashes.proofs.Named.{presents_from}
 use Rattle.clashes.proofs.check_present.Given as goal
 
 abbrev pub invariant-loop-i : goal.invariant-loop-i
 invariant-loop-i l =
-    (l.i ≤ l.n) ×
-    (first_of (λ d. present d (postings l.used l.table)) Answer.Present (destinations (changes l.list)) ≡ first_of
-    (λ d. present d (postings l.used l.table)) Answer.Present (destinations_from l.i (drop l.i (changes l.list))))
-
-abbrev pub decreases-loop-i : goal.decreases-loop-i
-decreases-loop-i l = l.n - l.i
+    present_check l.standing (changes l.list.numbers.now) ≡ presents_from l.standing l.i (drop l.i (changes l.list.numbers.now))

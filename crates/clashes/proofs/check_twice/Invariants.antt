@@ -1,20 +1,15 @@
--- `check_twice` seeks, for each change, an earlier one with its destination; it leaves both loops where it finds one.
-use Prim.Native.Nat.{◌-◌, ◌≤◌}
-use mathlib.Core.List.{[]}
-use mathlib.Core.Path.{◌≡◌}
-use Rattle.rules.specs.Checks.{twice_from}
-use Rattle.rules.specs.Orders.{changes, destinations}
-use Rattle.clashes.proofs.Pairs.{seek, pairs_from}
+-- At each turn what all changes, or all earlier ones, are answered is what the rest are; a pair has not been found.
+use Rattle.std.proofs.Common.{◌≡◌, None}
+use Rattle.rules.specs.Orders.{changes}
+use Rattle.rules.specs.Checks.{twice_check}
+use Rattle.clashes.specs.Pairs.{seek}
+use Rattle.clashes.proofs.Pairs.{pairs_from}
 use Rattle.clashes.proofs.check_twice.Given as goal
 
-abbrev pub invariant-loop-i : goal.invariant-loop-i
-invariant-loop-i l = (l.i ≤ l.j) × (seek (changes l.list) l.j 0 ≡ seek (changes l.list) l.j l.i)
-
-abbrev pub decreases-loop-i : goal.decreases-loop-i
-decreases-loop-i l = l.j - l.i
-
 abbrev pub invariant-pairs : goal.invariant-pairs
-invariant-pairs l = (l.j ≤ l.n) × (twice_from [] (destinations (changes l.list)) ≡ pairs_from (changes l.list) l.j)
+invariant-pairs l =
+    (l.pair ≡ None) × (twice_check (changes l.list.numbers.now) ≡ pairs_from (changes l.list.numbers.now) l.later)
 
-abbrev pub decreases-pairs : goal.decreases-pairs
-decreases-pairs l = l.n - l.j
+abbrev pub invariant-loop-earlier : goal.invariant-loop-earlier
+invariant-loop-earlier l =
+    (l.pair ≡ None) × (seek (changes l.list.numbers.now) l.later 0 ≡ seek (changes l.list.numbers.now) l.later l.earlier)

@@ -1,33 +1,40 @@
-use Rattle.std.proofs.Common.{◌≡◌, sym, ◌∙◌, ap, arith}
-use Rattle.std.proofs.lemmas.Float.{T_from_true, T_from_false}
-use Rattle.rules.specs.Orders.{changes}
-use Rattle.guarding.specs.Asking.{wanted_held}
-use Rattle.guarding.proofs.Asking.{asked_within, unheld_further, unheld_here, unheld_nowhere}
+-- What is left of the places is walked; where no key is asked for there is none.
+use native.Mathlib.Omega.{arith}
+use mathlib.Core.Path.{◌≡◌, sym, refl, ◌∙◌}
+use Prim.Native.Nat.{◌*◌}
+use Rattle.guarding.specs.Asking.{unheld_from}
+use Rattle.guarding.proofs.Asking.{unheld_left, unheld_nowhere}
 use Rattle.entry.proofs.first_unheld.Goals as goal
 
-pub wanted_at-wanted-requires : goal.wanted_at-wanted-requires
-wanted_at-wanted-requires c =
-    asked_within _ _ _ _ (rw c.keys_asked-n.ensures at c.loop-place-test.true)
+pub returns-in_default : goal.returns-in_default
+unfolding unheld_from
+returns-in_default c = rw c.in_default.ensures refl
+
+pub returns-then-not-is_held : goal.returns-then-not-is_held
+returns-then-not-is_held c =
+    rw (
+      c.in-Some.ensures.1,
+      sym c.in-Some.ensures.0,
+      sym c.len-places.ensures,
+      c.loop-place.invariant,
+      unheld_left _ _ _ _ c.loop-place-test.true,
+      sym c.wanted_at.ensures,
+      sym c.is_held.ensures,
+      c.if-not-is_held.true,
+    ) refl
 
 pub loop-place-preserved : goal.loop-place-preserved
 loop-place-preserved c =
-    let held = sym (ap (wanted_held c.args.guards.now) c.wanted_at-wanted.ensures) ∙ sym c.key_held.ensures ∙
-    c.if-key_held.true in (
-      omega arith,
-      c.loop-place.invariant.1 ∙ unheld_further c.args.guards.now (changes c.args.list.now) c.loop-place.place _
-          c.loop-place-test.true (T_from_true _ held),
-    )
-
-pub returns-else-key_held : goal.returns-else-key_held
-returns-else-key_held c =
-    let unheld = sym (ap (wanted_held c.args.guards.now) c.wanted_at-wanted.ensures) ∙ sym c.key_held.ensures ∙
-    c.if-key_held.false in
-    sym (c.loop-place.invariant.1 ∙ unheld_here c.args.guards.now (changes c.args.list.now) c.loop-place.place _
-    c.loop-place-test.true (T_from_false _ unheld))
+    rw (
+      c.loop-place.invariant,
+      unheld_left _ _ _ _ c.loop-place-test.true,
+      sym c.wanted_at.ensures,
+      sym c.is_held.ensures,
+      c.if-not-is_held.false,
+    ) refl
 
 pub returns : goal.returns
 returns c =
-    let end : c.loop-place.place ≡ c.keys_asked-n.result = omega arith in
-    sym end
-    ∙ sym (c.loop-place.invariant.1 ∙ unheld_nowhere c.args.guards.now (changes c.args.list.now) c.loop-place.place _
-    c.loop-place-test.false)
+    let end : c.loop-place.place ≡ c.len-places.result * 2 = omega arith in
+    rw (c.in-Some.ensures.1, sym c.in-Some.ensures.0, sym c.len-places.ensures, c.loop-place.invariant)
+    (sym (unheld_nowhere _ _ _ _ c.loop-place-test.false ∙ end))

@@ -1,26 +1,25 @@
 -- By what the cached pass says.
-use mathlib.Core.Path.{ap, ◌∙◌}
-use Rattle.lane_rules.specs.Rounds.{pass_with}
-use Rattle.lane_rounds.proofs.Rounding.{detaching_few, detaching_yes, detaching_no, detaching_error}
+use Rattle.std.proofs.Common.{◌≡◌, Err, ◌∙◌, rules}
+use Rattle.lane_rules.specs.declared.Failure.{Failure}
+use Rattle.lane_rounds.proofs.Rounding.{detaching_yes, detaching_no, detaching_error}
 use Rattle.lane_rounds.proofs.detach.Goals as goal
 
-pub rounds_of-requires : goal.rounds_of-requires
-rounds_of-requires c =
-    let first = c.pass_with-first.ensures ∙ ap (pass_with _) c.cached_pass.ensures in
-    let few = c.requires in
-    (few, detaching_few _ _ c.args.lent _ _ c.pass_with-first.result first few)
+pub returns-in_err-cached_pass : goal.returns-in_err-cached_pass
+returns-in_err-cached_pass c =
+    let k = detaching_error c.args.strip.now c.args.lent c.args.view.now _ _ _ c.cached_pass.ensures.said
+    c.cached_pass.ensures.view c.cached_pass.ensures.strip c.in_err-cached_pass.was in
+    let told : c.from_residual.result ≡ Err (Failure.Offset 0) = search rules in
+    record { answer = told ∙ k.0; view = k.1 }
 
-pub returns-in-Yes : goal.returns-in-Yes
-returns-in-Yes c =
-    let first = c.pass_with-first.ensures ∙ ap (pass_with _) c.cached_pass.ensures in
-    c.ended_by.ensures ∙ detaching_yes _ _ _ _ _ c.pass_with-first.result first c.in-Yes.is
+pub returns-then-branch : goal.returns-then-branch
+returns-then-branch c =
+    let k = detaching_yes c.args.strip.now c.args.lent c.args.view.now _ _ _ c.cached_pass.ensures.said
+    c.cached_pass.ensures.view c.cached_pass.ensures.strip (rw (← c.if-branch.true) c.in_ok-cached_pass.was) in
+    record { answer = k.0; view = k.1 }
 
-pub returns-in-No : goal.returns-in-No
-returns-in-No c =
-    let first = c.pass_with-first.ensures ∙ ap (pass_with _) c.cached_pass.ensures in
-    c.rounds_of.ensures ∙ detaching_no _ _ _ _ _ c.pass_with-first.result first c.in-No.is
-
-pub returns-in-Error : goal.returns-in-Error
-returns-in-Error c =
-    let first = c.pass_with-first.ensures ∙ ap (pass_with _) c.cached_pass.ensures in
-    c.ended_by-in-Error.ensures ∙ detaching_error _ _ _ _ _ c.pass_with-first.result first c.in-Error.is
+pub returns : goal.returns
+returns c =
+    let k = detaching_no c.args.strip.now c.args.lent c.args.view.now _ _ _ c.cached_pass.ensures.said
+    c.cached_pass.ensures.view c.cached_pass.ensures.strip (rw (← c.if-branch.false) c.in_ok-cached_pass.was)
+    _ _ (c.rounds_of.ensures.answer, c.rounds_of.ensures.view) in
+    record { answer = k.0; view = k.1 }

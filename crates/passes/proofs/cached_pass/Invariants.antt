@@ -3,8 +3,4 @@ use Rattle.passes.proofs.Caching.{Caching}
 use Rattle.passes.proofs.cached_pass.Given as goal
 
 abbrev pub invariant-loop-lane : goal.invariant-loop-lane
-invariant-loop-lane l =
-    Caching l.strip l.height l.window l.attached l.remain l.read l.lane
-
-abbrev pub decreases-loop-lane : goal.decreases-loop-lane
-decreases-loop-lane l = l.lane
+invariant-loop-lane l = Caching l.initial.strip.now l.initial.view l.strip.now l.view l.lane

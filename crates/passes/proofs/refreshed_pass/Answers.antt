@@ -1,24 +1,29 @@
-use native.Mathlib.Omega.{arith}
-use mathlib.Core.Path.{sym, ◌∙◌}
-use borrow.Author.Rules.{rules}
-use Rattle.passes.proofs.Refreshing.{refreshing_start, refreshing_end, refreshing_error, refreshing_next}
+use Rattle.std.proofs.Common.{sym, ◌∙◌, arith}
+use Rattle.lane_laws.proofs.Cases.{one_error}
+use Rattle.passes.proofs.Refreshing.{refreshing_start, refreshing_end, refreshing_outside, refreshing_tried, refreshing_error}
 use Rattle.passes.proofs.refreshed_pass.Goals as goal
 
 pub loop-lane-init : goal.loop-lane-init
-loop-lane-init c = refreshing_start _ _ _ _ _
+loop-lane-init c = refreshing_start _ _
 
-pub try_lane-pass-requires : goal.try_lane-pass-requires
-try_lane-pass-requires c = let few = c.loop-lane.invariant.few in let low = c.loop-lane-test.true in search rules
+pub returns-in_err-compare : goal.returns-in_err-compare
+returns-in_err-compare c =
+    let inside = sym c.lane_in.ensures ∙ c.if-lane_in.true in
+    let k = refreshing_error c.loop-lane.invariant c.loop-lane-test.true c.next_byte.result c.compare.new.attached
+    c.compare.result _ inside c.next_byte.ensures.byte c.next_byte.ensures.strip c.compare.ensures c.in_err-compare.was in
+    record { said = one_error _ c.from_residual.ensures.0 ∙ k.0; view = k.1; strip = k.2 }
 
-pub returns-then-has_failed : goal.returns-then-has_failed
-returns-then-has_failed c =
-    sym (refreshing_error c.loop-lane.invariant c.try_lane-pass.result c.loop-lane-test.true
-    c.try_lane-pass.ensures (sym c.has_failed.ensures ∙ c.if-has_failed.true))
+pub loop-lane-preserved-then-lane_in : goal.loop-lane-preserved-then-lane_in
+loop-lane-preserved-then-lane_in c =
+    let inside = sym c.lane_in.ensures ∙ c.if-lane_in.true in
+    refreshing_tried c.loop-lane.invariant c.loop-lane-test.true c.next_byte.result c.compare.new.attached
+    c.compare.result _ inside c.next_byte.ensures.byte c.next_byte.ensures.strip c.compare.ensures c.in_ok-compare.field-0 c.in_ok-compare.was
 
 pub loop-lane-preserved : goal.loop-lane-preserved
 loop-lane-preserved c =
-    refreshing_next c.loop-lane.invariant c.try_lane-pass.result c.loop-lane-test.true c.try_lane-pass.ensures
-    (sym c.has_failed.ensures ∙ c.if-has_failed.false)
+    refreshing_outside c.loop-lane.invariant c.loop-lane-test.true (sym c.lane_in.ensures ∙ c.if-lane_in.false)
 
 pub returns : goal.returns
-returns c = sym (refreshing_end c.loop-lane.invariant (omega arith))
+returns c =
+    let k = refreshing_end c.loop-lane.invariant (omega arith) in
+    record { said = k.0; view = k.1; strip = k.2 }

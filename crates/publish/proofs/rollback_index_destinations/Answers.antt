@@ -1,20 +1,17 @@
--- The refusal, or else the work.
-use mathlib.Core.Path.{sym, ap, ◌∙◌}
+-- The checks have shown what the work asks for; the refusal, or else the work.
+use Rattle.std.proofs.Common.{refl, ap}
 use Rattle.rules.specs.Calls.{rollback_of}
 use Rattle.refusals.proofs.Firsts.{rollback_ready}
 use Rattle.publish.specs.Promises.{seen_of}
 use Rattle.publish.proofs.rollback_index_destinations.Goals as goal
 
 pub rollback-requires : goal.rollback-requires
-rollback-requires c =
-    let ready = rollback_ready _ _ _ (sym c.of_rollback.ensures ∙ c.in-Passes.is) in
-    record { table_formed = ready.0; within_limits = ready.1.0; record_in_bounds = ready.1.1 }
+rollback-requires c = let a = c.in-Ok.ensures in let r = rollback_ready _ _ _ a.0 in record { table_formed = r.0; record_in_bounds = rw a.1 r.1.1 }
 
-pub returns-in-Refused : goal.returns-in-Refused
+pub returns-in-Ok : goal.returns-in-Ok
 unfolding rollback_of
-returns-in-Refused c = rw (sym c.of_rollback.ensures ∙ c.in-Refused.is)
+returns-in-Ok c = let a = c.in-Ok.ensures in rw a.0 (ap seen_of (rw a.1 at c.rollback.ensures))
 
-pub returns-in-Passes : goal.returns-in-Passes
+pub returns-in-Err : goal.returns-in-Err
 unfolding rollback_of
-returns-in-Passes c =
-    rw (sym c.of_rollback.ensures ∙ c.in-Passes.is) (ap seen_of c.rollback.ensures)
+returns-in-Err c = rw (c.in-Err.ensures, c.refused.ensures) refl

@@ -7,7 +7,4 @@ use Rattle.steps_undo.proofs.rollback.Given as goal
 
 abbrev pub invariant-loop-place : goal.invariant-loop-place
 invariant-loop-place l =
-    Undoing (as_recorded l.«record») (changes l.list) l.strip (length l.«record») 0 l.used l.initial.table l.table l.so_far l.place
-
-abbrev pub decreases-loop-place : goal.decreases-loop-place
-decreases-loop-place l = l.place
+    Undoing (as_recorded l.«record») (changes l.list.numbers.now) (length l.«record») l.initial.storage l.storage l.so_far l.place

@@ -1,9 +1,0 @@
--- `add_items` goes on in its text or stops.
-use Rattle.std.proofs.Common.{◌≡◌, ◌-◌, length}
-use Rattle.case_text.proofs.reading.add_items.Given as goal
-
-abbrev pub invariant-loop-at : goal.invariant-loop-at
-invariant-loop-at l = length l.part ≡ length l.initial.part
-
-abbrev pub decreases-loop-at : goal.decreases-loop-at
-decreases-loop-at l = length l.text - l.at

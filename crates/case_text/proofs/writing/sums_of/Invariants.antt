@@ -1,9 +1,0 @@
--- `sums_of` reads within its list.
-use Rattle.std.proofs.Common.{◌-◌, ◌≤◌, length}
-use Rattle.case_text.proofs.writing.sums_of.Given as goal
-
-abbrev pub invariant-loop-at : goal.invariant-loop-at
-invariant-loop-at l = l.at ≤ length l.numbers
-
-abbrev pub decreases-loop-at : goal.decreases-loop-at
-decreases-loop-at l = length l.numbers - l.at

@@ -1,0 +1,83 @@
+// Reads the items of a list's line, which are `v`, `n*v` and `n*(v w+ ..)`.
+ghost use Rattle.std.specs.Prelude.{◌+◌, ◌++◌, ◌≡◌, ◌<◌, ◌≤◌, length, IfSome, IsSome};
+
+use std::str;
+
+/// A group of numbers, and how often it is said.
+#[derive(Clone, Copy)]
+pub struct Item<'a> {
+    pub times: u32,
+    pub group: &'a [u8],
+}
+
+/// The text before the first byte that passes a test, and the text from that byte on; all and nothing where none passes.
+pub fn cut<F: FnMut(&u8) -> bool + Drop>(text: &[u8], test: F) -> (&[u8], &[u8])
+    requires { F.IsAlwaysCallable test }
+    ensures parts { text.now ≡ result.0.now ++ result.1.now }
+    ensures lengths { length result.0.now + length result.1.now ≡ length text.now }
+{
+    let end = text.iter().position(test).unwrap_or(text.len());
+    text.split_at(end)
+}
+
+/// The number that a word says by digits alone: `parse` would take a sign too.
+fn number(word: &[u8]) -> Option<u32> {
+    if !word.iter().all(u8::is_ascii_digit) {
+        return None;
+    }
+    str::from_utf8(word).ok()?.parse().ok()
+}
+
+/// The number that a word says in a group's turn: `v+` is more by one at each turn.
+pub fn number_in_turn(word: &[u8], turn: u32) -> Option<u32> {
+    match word.strip_suffix(b"+") {
+        Some(first) => number(first)?.checked_add(turn),
+        None => number(word),
+    }
+}
+
+/// An item and the text behind it. A group begins with a number, so that each turn fills some of a list's room.
+fn checked<'a>(times: u32, group: &'a [u8], behind: &'a [u8]) -> Option<(Item<'a>, &'a [u8])>
+    ensures some { IfSome result (λ (item, after). after.now ≡ behind.now) }
+    ensures number { IsSome result → 0 < length group.now }
+{
+    if !group.first()?.is_ascii_digit() {
+        return None;
+    }
+    Some((Item { times, group }, behind))
+}
+
+/// The item whose group ends at a bracket, which must be there and end the item.
+fn bracketed(times: u32, text: &[u8]) -> Option<(Item<'_>, &[u8])>
+    ensures { IfSome result (λ (item, behind). length behind.now < length text.now) }
+{
+    let (group, bracket) = cut(text, |b| *b == b')');
+    let (_, behind) = bracket.split_first()?;
+    if behind.first().is_some_and(|b| *b != b' ') {
+        return None;
+    }
+    checked(times, group, behind)
+}
+
+/// The item whose group ends with its word.
+fn plain(times: u32, text: &[u8]) -> Option<(Item<'_>, &[u8])>
+    ensures { IfSome result (λ (item, behind). length behind.now < length text.now) }
+{
+    let (group, behind) = cut(text, |b| *b == b' ');
+    checked(times, group, behind)
+}
+
+/// The item that a text begins with, and the text behind it, unless the item is malformed.
+pub fn first_item(text: &[u8]) -> Option<(Item<'_>, &[u8])>
+    ensures { IfSome result (λ (item, behind). length behind.now < length text.now) }
+{
+    let (times, after) = cut(text, |b| !b.is_ascii_digit());
+    let Some(said) = after.strip_prefix(b"*") else {
+        return plain(1, text);
+    };
+    let times = number(times)?;
+    match said.strip_prefix(b"(") {
+        Some(inside) => bracketed(times, inside),
+        None => plain(times, said),
+    }
+}

@@ -1,2 +1,0 @@
--- The laws of the checks: one for each way that a test can go.
-pub mod Checking

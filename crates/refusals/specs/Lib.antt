@@ -1,0 +1,2 @@
+-- What the contracts of `refusals` speak of.
+pub mod Admitting

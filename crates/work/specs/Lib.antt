@@ -1,0 +1,2 @@
+-- What the contracts of `work` speak of.
+pub mod Bringing
