@@ -68,10 +68,16 @@ fn publish_beside(
     ensures { outcome_of result table.new «record».new ≡ value_of head table.old list.now guards unheld strip.now «record».old }
 {
     let paired = guards <= MOST_GUARDS;
-    match refusals::of_publish_beside(head, table, list, paired, unheld / 2, strip, record) {
-        Ok(list) => publish_core::publish(head, table, list, strip, record),
-        Err(why) => Done::refused(head, why),
-    }
+    let admitted = refusals::of_publish_beside(
+        head,
+        table,
+        list,
+        paired,
+        unheld / 2,
+        strip,
+        record,
+    );
+    publish_core::publish(head, table, admitted, strip, record)
 }
 
 // The by-value call: the head comes back with the poison flag as it was lent, and whether it is to be set is told apart.

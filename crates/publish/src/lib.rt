@@ -78,10 +78,8 @@ pub fn publish(
         (lending changes.now guards.now strip.now «record».old) result
         table.new «record».new }
 {
-    match refusals::of_publish(head, table, changes, guards, strip, record) {
-        Ok(list) => publish_core::publish(head, table, list, strip, record),
-        Err(why) => Done::refused(head, why),
-    }
+    let admitted = refusals::of_publish(head, table, changes, guards, strip, record);
+    publish_core::publish(head, table, admitted, strip, record)
 }
 
 // How many postings a binding and key have.
