@@ -56,6 +56,7 @@ pub fn wanted_at(list: &[u32], place: usize) -> Option<Guard>
 }
 
 // The core beside so many guards and the first place whose key they do not hold.
+#[tactic(auto, using(publish_core::proofs::Publishing::admitted_ready, publish_core::proofs::Publishing::core_admitted))]
 fn publish_beside(
     head: Head,
     table: &mut [u32],

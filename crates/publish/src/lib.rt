@@ -66,6 +66,7 @@ pub fn remove_index_sources(
 }
 
 // Prepare, then source removal: sources stay until every destination is in.
+#[tactic(auto, using(publish_core::proofs::Publishing::admitted_ready, publish_core::proofs::Publishing::admitted_publishes))]
 pub fn publish(
     head: Head,
     table: &mut [u32],

@@ -90,3 +90,11 @@ core_admitted head table cs strip list checks (Ok l) a =
 core_admitted head table cs strip list checks (Err why) a =
     core_refuses head table [] strip list why
     ∙ (sym (core_refuses head table cs strip list why) ∙ core_after head table cs strip list (sym a))
+
+-- and where these are the checks of a publish beside some guards, what is left is what publish leaves
+pub admitted_publishes :
+    (head : Head) (table cs gs strip list : List ℕ) (admitted : Result Changes Failure) →
+    Admits (first_refusal (order_checks head table cs (proper_guards gs) strip list ∷ guard_check head.bindings (guards gs) (changes cs) ∷ [])) cs admitted →
+    core_of head table (numbers_of admitted) (verdict_of admitted) strip list ≡ publish_of head table (lending cs gs strip list)
+admitted_publishes head table cs gs strip list admitted a =
+    core_admitted head table cs strip list _ admitted a ∙ core_publishes head table cs gs _ _ _ strip list refl refl (λ _. refl)
