@@ -56,6 +56,7 @@ pub fn wanted_at(list: &[u32], place: usize) -> Option<Guard>
 }
 
 // The core beside so many guards and the first place whose key they do not hold.
+#[tactic(auto, using(publish_core::proofs::Publishing::admitted_ready, publish_core::proofs::Publishing::core_admitted))]
 fn publish_beside(
     head: Head,
     table: &mut [u32],
@@ -68,10 +69,16 @@ fn publish_beside(
     ensures { outcome_of result table.new «record».new ≡ value_of head table.old list.now guards unheld strip.now «record».old }
 {
     let paired = guards <= MOST_GUARDS;
-    match refusals::of_publish_beside(head, table, list, paired, unheld / 2, strip, record) {
-        Ok(list) => publish_core::publish(head, table, list, strip, record),
-        Err(why) => Done::refused(head, why),
-    }
+    let admitted = refusals::of_publish_beside(
+        head,
+        table,
+        list,
+        paired,
+        unheld / 2,
+        strip,
+        record,
+    );
+    publish_core::publish(head, table, admitted, strip, record)
 }
 
 // The by-value call: the head comes back with the poison flag as it was lent, and whether it is to be set is told apart.

@@ -66,6 +66,7 @@ pub fn remove_index_sources(
 }
 
 // Prepare, then source removal: sources stay until every destination is in.
+#[tactic(auto, using(publish_core::proofs::Publishing::admitted_ready, publish_core::proofs::Publishing::admitted_publishes))]
 pub fn publish(
     head: Head,
     table: &mut [u32],
@@ -78,10 +79,8 @@ pub fn publish(
         (lending changes.now guards.now strip.now «record».old) result
         table.new «record».new }
 {
-    match refusals::of_publish(head, table, changes, guards, strip, record) {
-        Ok(list) => publish_core::publish(head, table, list, strip, record),
-        Err(why) => Done::refused(head, why),
-    }
+    let admitted = refusals::of_publish(head, table, changes, guards, strip, record);
+    publish_core::publish(head, table, admitted, strip, record)
 }
 
 // How many postings a binding and key have.

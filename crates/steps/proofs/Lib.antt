@@ -1,2 +1,3 @@
--- The laws of prepare: the turns of its loop, and its end where a change could not be inserted.
+-- The laws of prepare: the turns of its loop, its end where a change could not be inserted, and how many bytes it reads.
 pub mod Insertions
+pub mod Reading

@@ -2,7 +2,7 @@
 // follows the last insertion. An inner layer, not delivered.
 #![tactic(auto)]
 
-ghost use Rattle.std.specs.Prelude.{◌≤◌, ◌≡◌, [], Ok, Err, length};
+ghost use Rattle.std.specs.Prelude.{◌+◌, ◌*◌, ◌≤◌, ◌≡◌, [], Ok, Err, length};
 ghost use Rattle.rules.specs.Table.{capacity};
 ghost use Rattle.rules.specs.Orders.{changes, destinations};
 ghost use Rattle.rules.specs.Publication.{undoing, not_inserted, preparing};
@@ -28,11 +28,14 @@ fn blamed(fault: Fault, change: u32) -> Failure
 // A change could not be inserted: all before it is undone. The answer says why, or 12 where the undo failed.
 fn not_inserted(storage: &mut Storage, list: Changes, change: usize, fault: Fault) -> Failure
     requires { change ≤ length (changes list.numbers.now) }
-    ensures { StageIn
+    ensures stage { StageIn
         (not_inserted (blamed_on fault change) change
         (undoing storage.old.strip.now (backward in_order change (changes list.entry.numbers.now)) (Ok tt) 0
         (holding storage.old)))
         (Err result) storage.old storage.new }
+    ensures few { (not_inserted (blamed_on fault change) change
+        (undoing storage.old.strip.now (backward in_order change (changes list.entry.numbers.now)) (Ok tt) 0
+        (holding storage.old))).read ≤ change }
 {
     match undo_below(storage, list, change) {
         Ok(()) => blamed(fault, change as u32),
@@ -40,12 +43,16 @@ fn not_inserted(storage: &mut Storage, list: Changes, change: usize, fault: Faul
     }
 }
 
-// Prepare: the destinations go in, up the list. At a failed insertion all is undone.
+// Prepare: the destinations go in, up the list. At a failed insertion all is undone. It reads one byte for each insertion, and one for
+// each removal of the undo.
 pub fn prepare(storage: &mut Storage, list: Changes) -> Answer
-    ensures { StageIn
+    ensures stage { StageIn
         (preparing (capacity storage.old.numbers.now) storage.old.strip.now
         (destinations (changes list.entry.numbers.now)) [] 0 (holding storage.old))
         result storage.old storage.new }
+    ensures few { (preparing (capacity storage.old.numbers.now) storage.old.strip.now
+        (destinations (changes list.entry.numbers.now)) [] 0 (holding storage.old)).read
+        ≤ length (changes list.entry.numbers.now) * 2 + 1 }
 {
     let mut inserted = 0;
     for i in 0..list.len() {

@@ -119,3 +119,11 @@ removing_later strip clear (s ∷ ss) start read ps =
     (either start r.failed _ _ _ _
     (λ i. record { answer = Err (Failure.Source s.number); postings = r.postings; read = n i })
     (ap (λ m. removing strip clear ss m r.postings) n ∙ removing_later strip clear ss start (read + 1) r.postings))
+
+-- and so they are, counted from where they begin
+pub removing_rest :
+    (strip : List ℕ) (clear : Result ℕ Failure) (ss : List Numbered) (start : ℕ) (ps : List Posting) →
+    removing strip clear ss start ps ≡ later start (removing (drop start strip) clear ss 0 ps)
+removing_rest strip clear ss start ps =
+    let n : start ≡ start + 0 = omega arith in
+    ap (λ (m : ℕ). removing strip clear ss m ps) n ∙ removing_later strip clear ss start 0 ps

@@ -1,6 +1,6 @@
 -- Undo: one change, and the turns of a run from the last change to the first.
 use Rattle.std.proofs.Common.{Option, Some, None, Result, Ok, Err, ℕ}
-use Prim.Native.Nat.{ℕ, zero, suc, ◌+◌, ◌-◌, ◌<◌}
+use Prim.Native.Nat.{ℕ, zero, suc, ◌+◌, ◌-◌, ◌<◌, ◌≤◌}
 use native.Mathlib.Omega.{arith}
 use mathlib.Core.Path.{◌≡◌, refl, sym, ap, ◌∙◌}
 use mathlib.Core.List.{List, [], ◌∷◌, ◌++◌, reverse, reverse_aux-eq, append-nil}
@@ -49,6 +49,22 @@ undoing_later strip n (d ∷ ds) v read ps =
     rw (undoing_step strip d ds v (n + read) ps, undoing_step (drop n strip) d ds v read ps, byte, next)
     (undoing_later strip n ds _ (read + 1) _)
 
+-- a run reads one byte for each removal
+pub undoing_reads :
+    (strip : List ℕ) (ds : List Numbered) (v : Result Unit Failure) (read : ℕ) (ps : List Posting) →
+    (undoing strip ds v read ps).read ≡ read + length ds
+unfolding undoing
+undoing_reads strip [] v read ps = omega arith
+undoing_reads strip (d ∷ ds) v read ps =
+    let next : read + 1 + length ds ≡ read + suc (length ds) = omega arith in
+    undoing_reads strip ds _ (read + 1) (removal (byte_at strip read) d.posting ps).postings ∙ next
+
+-- a change names one posting at most
+pub named_few :
+    (number : ℕ) (c : Change) (k : Option ℕ) (ds : List Numbered) (most : ℕ) → length ds ≤ most → length (named number c k ds) ≤ suc most
+named_few number c None ds most h = omega arith
+named_few number c (Some key) ds most h = omega arith
+
 -- one change is undone, and what is left to undo goes on from there
 one_more :
     (strip : List ℕ) (number : ℕ) (c : Change) (k : Option ℕ) (ds : List Numbered) (v : Result Unit Failure) (read : ℕ) (ps : List Posting) →
@@ -73,6 +89,23 @@ backward_next :
 unfolding backward
 backward_next number cs zero h = absurd (omega arith)
 backward_next number cs (suc i) h = let e : suc i - 1 ≡ i = omega arith in rw e
+
+-- so many changes name no more postings than they are
+backward_few : (number : ℕ → ℕ) (cs : List Change) (i : ℕ) → length (backward number i cs) ≤ i
+unfolding backward
+backward_few number cs zero = omega arith
+backward_few number cs (suc i) =
+    let c : Change = get_or cs (number i) no_change in
+    named_few (number i) c (destination_of c) (backward number i cs) i (backward_few number cs i)
+
+-- and their undo reads no more bytes
+pub undo_few :
+    (strip : List ℕ) (number : ℕ → ℕ) (cs : List Change) (i : ℕ) (v : Result Unit Failure) (ps : List Posting) →
+    (undoing strip (backward number i cs) v 0 ps).read ≤ i
+undo_few strip number cs i v ps =
+    let r = undoing_reads strip (backward number i cs) v 0 ps in
+    let f = backward_few number cs i in
+    omega arith
 
 -- a run of undo removals that has come down to i
 pub record Undoing (number : ℕ → ℕ) (cs : List Change) (n : ℕ) (before after : Storage) (v : Result Unit Failure) (i : ℕ) : Type 0 where
@@ -139,6 +172,13 @@ recorded_backward cs (n ∷ ns) =
     named_reverse n (get_or cs n no_change) (destination_of (get_or cs n no_change)) (recorded cs ns)
     ∙ (ap (λ ds. ds ++ named n (get_or cs n no_change) (destination_of (get_or cs n no_change)) []) (recorded_backward cs ns)
     ∙ sym (backward_last cs n ns (length ns)))
+
+-- so a rollback reads no more bytes than its record is long
+pub rollback_few :
+    (strip : List ℕ) (cs : List Change) (ns : List ℕ) (v : Result Unit Failure) (ps : List Posting) →
+    (undoing strip (reverse (recorded cs ns)) v 0 ps).read ≤ length ns
+rollback_few strip cs ns v ps =
+    rw (recorded_backward cs ns) (undo_few strip (as_recorded ns) cs (length ns) v ps)
 
 -- each number of a record that passed its check is a change's
 pub number_below :

@@ -21,10 +21,12 @@ fn undo_change(
     change: Change,
     so_far: Result<(), Failure>,
 ) -> Result<(), Failure>
-    ensures { UndoneIn
+    ensures undone { UndoneIn
         (undoing storage.old.strip.now (named number change (destination_of change) []) so_far 0
         (holding storage.old))
         result storage.old storage.new }
+    ensures few { (undoing storage.old.strip.now (named number change (destination_of change) []) so_far 0
+        (holding storage.old)).read ≤ 1 }
 {
     let Some(key) = change.after else {
         return so_far;
@@ -35,13 +37,15 @@ fn undo_change(
     }
 }
 
-// The destinations of the changes below one are removed, from the last to the first.
+// The destinations of the changes below one are removed, from the last to the first. It reads one byte for each at most.
 pub fn undo_below(storage: &mut Storage, list: Changes, change: usize) -> Result<(), Failure>
     requires { change ≤ length (changes list.numbers.now) }
-    ensures { UndoneIn
+    ensures undone { UndoneIn
         (undoing storage.old.strip.now (backward in_order change (changes list.entry.numbers.now)) (Ok tt) 0
         (holding storage.old))
         result storage.old storage.new }
+    ensures few { (undoing storage.old.strip.now (backward in_order change (changes list.entry.numbers.now)) (Ok tt) 0
+        (holding storage.old)).read ≤ change }
 {
     let mut so_far = Ok(());
     for number in (0..change).rev() {
@@ -50,13 +54,15 @@ pub fn undo_below(storage: &mut Storage, list: Changes, change: usize) -> Result
     so_far
 }
 
-// Rollback: the destinations of a record are removed, from its end to its start.
+// Rollback: the destinations of a record are removed, from its end to its start. It reads one byte for each at most.
 pub fn rollback(storage: &mut Storage, list: Changes, record: &[u32]) -> Result<(), Failure>
     requires { every (λ n. ltb n (length (changes list.numbers.now))) «record».now ≡ true }
-    ensures { UndoneIn
+    ensures undone { UndoneIn
         (undoing storage.old.strip.now (reverse (recorded (changes list.entry.numbers.now) «record».now)) (Ok tt) 0
         (holding storage.old))
         result storage.old storage.new }
+    ensures few { (undoing storage.old.strip.now (reverse (recorded (changes list.entry.numbers.now) «record».now)) (Ok tt) 0
+        (holding storage.old)).read ≤ length «record».now }
 {
     let mut so_far = Ok(());
     // Over places: with `record.iter().rev()` the proof did not close, since its clauses don't say at which place an item stands.

@@ -64,6 +64,7 @@ fn bring(storage: &mut Storage, list: Changes, record: &mut [u32]) -> Answer
 }
 
 // Sources stay until every destination is in.
+#[tactic(auto, using(steps_sources::proofs::Removals::removing_rest, crate::proofs::Showing::left_after))]
 fn bring_and_clear(storage: &mut Storage, list: Changes, record: &mut [u32]) -> Answer
     requires { length (changes list.numbers.now) ≤ length «record».old }
     ensures stage { StageIn

@@ -1,5 +1,6 @@
 use native.Mathlib.Omega.{arith}
 use Rattle.steps.proofs.Insertions.{prepare_start, prepare_pass, prepare_clear, prepare_stop, prepare_end}
+use Rattle.steps.proofs.Reading.{preparing_few}
 use Rattle.steps.proofs.prepare.Goals as goal
 
 pub loop-i-init : goal.loop-i-init
@@ -10,8 +11,12 @@ loop-i-preserved-in_default c = prepare_pass c.loop-i.invariant (omega arith) _ 
 
 pub returns-in-Err : goal.returns-in-Err
 returns-in-Err c =
-    prepare_stop c.loop-i.invariant (omega arith) _ c.at-change.ensures _ c.in-Some.is _ c.insert.new.self
-    (rw c.posting.ensures at c.insert.ensures) _ _ c.not_inserted.new.storage c.in-Err.is c.not_inserted.ensures
+    record {
+      stage =
+          prepare_stop c.loop-i.invariant (omega arith) _ c.at-change.ensures _ c.in-Some.is _ c.insert.new.self
+          (rw c.posting.ensures at c.insert.ensures) _ _ c.not_inserted.new.storage c.in-Err.is c.not_inserted.ensures.stage;
+      few = preparing_few _ _ _ _;
+    }
 
 pub loop-i-preserved : goal.loop-i-preserved
 loop-i-preserved c =
@@ -19,4 +24,4 @@ loop-i-preserved c =
     (rw c.posting.ensures at c.insert.ensures) c.in_default-insert.is
 
 pub returns : goal.returns
-returns c = prepare_end c.loop-i.invariant (omega arith)
+returns c = record { stage = prepare_end c.loop-i.invariant (omega arith); few = preparing_few _ _ _ _ }

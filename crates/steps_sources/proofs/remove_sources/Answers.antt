@@ -1,6 +1,7 @@
 use native.Mathlib.Omega.{arith}
 use mathlib.Core.Path.{sym, ap, ◌∙◌}
 use Rattle.rules.specs.Orders.{source_of}
+use Rattle.steps_sources.proofs.Reading.{removing_first}
 use Rattle.steps_sources.proofs.Removals.{remove_pass, remove_clear, remove_stop, remove_end}
 use Rattle.steps_sources.proofs.remove_sources.Goals as goal
 
@@ -10,8 +11,12 @@ loop-number-preserved-in_default c =
 
 pub returns-in-Err : goal.returns-in-Err
 returns-in-Err c =
-    remove_stop c.loop-number.invariant (omega arith) _ (ap source_of (sym c.at-change.ensures) ∙ c.in-Some.is)
-    c.remove.new.self c.remove.result (rw (c.posting.ensures, c.at-change.ensures) at c.remove.ensures) _ c.in-Err.is
+    record {
+      stage =
+          remove_stop c.loop-number.invariant (omega arith) _ (ap source_of (sym c.at-change.ensures) ∙ c.in-Some.is)
+          c.remove.new.self c.remove.result (rw (c.posting.ensures, c.at-change.ensures) at c.remove.ensures) _ c.in-Err.is;
+      few = removing_first _ _ _ _;
+    }
 
 pub loop-number-preserved : goal.loop-number-preserved
 loop-number-preserved c =
@@ -19,4 +24,4 @@ loop-number-preserved c =
     c.remove.new.self c.remove.result (rw (c.posting.ensures, c.at-change.ensures) at c.remove.ensures) _ c.in-Ok.is
 
 pub returns : goal.returns
-returns c = remove_end c.loop-number.invariant (omega arith)
+returns c = record { stage = remove_end c.loop-number.invariant (omega arith); few = removing_first _ _ _ _ }

@@ -6,5 +6,5 @@ use Rattle.work.proofs.remove.Goals as goal
 
 pub done-requires : goal.done-requires
 done-requires c =
-    used_fits c.args.head c.args.table.now _ _ c.requires (c.remove_sources-answer.ensures.1.1 ∙ ap length c.stored-storage.ensures.same_numbers)
+    used_fits c.args.head c.args.table.now _ _ _ c.requires (c.remove_sources-answer.ensures.stage.1.1 ∙ ap length c.stored-storage.ensures.same_numbers)
     c.remove_sources-answer.new.storage.ordered
