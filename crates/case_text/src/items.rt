@@ -1,8 +1,6 @@
 // Reads the items of a list's line, which are `v`, `n*v` and `n*(v w+ ..)`.
 ghost use Rattle.std.specs.Prelude.{◌+◌, ◌++◌, ◌≡◌, ◌<◌, ◌≤◌, length, IfSome, IsSome};
 
-use std::str;
-
 /// A group of numbers, and how often it is said.
 #[derive(Clone, Copy)]
 pub struct Item<'a> {
@@ -22,10 +20,15 @@ pub fn cut<F: FnMut(&u8) -> bool + Drop>(text: &[u8], test: F) -> (&[u8], &[u8])
 
 /// The number that a word says by digits alone: `parse` would take a sign too.
 fn number(word: &[u8]) -> Option<u32> {
-    if !word.iter().all(u8::is_ascii_digit) {
+    if word.is_empty() {
         return None;
     }
-    str::from_utf8(word).ok()?.parse().ok()
+    word.iter().try_fold(0u32, |number, digit| {
+        if !digit.is_ascii_digit() {
+            return None;
+        }
+        number.checked_mul(10)?.checked_add(u32::from(*digit - b'0'))
+    })
 }
 
 /// The number that a word says in a group's turn: `v+` is more by one at each turn.
