@@ -80,8 +80,12 @@ impl Lists {
         let output = self.output.copied_to(&mut output);
         let scratch = self.scratch.copied_to(&mut scratch);
         let [count] = self.count;
-        let answer =
-            buckets::canonical_buckets_bitmap(self.input.as_slice(), count, output, scratch);
+        let answer = buckets::canonical_buckets_bitmap(
+            self.input.as_slice(),
+            count,
+            output,
+            scratch,
+        );
         write_done(out, answer, output)?;
         write!(out, "; scratch{}", Listed(scratch))
     }

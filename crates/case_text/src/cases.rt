@@ -97,3 +97,76 @@ pub fn run<R: Read, W: Write, C: Cases>(input: &mut R, out: &mut W, cases: &mut 
         let _ = run_line(cases, line, &mut out);
     }
 }
+
+#[cfg(test)]
+mod tests {
+    use super::*;
+    use std::io::ErrorKind;
+    use std::test::Fail;
+
+    /// A program with no list and one call, which writes a word.
+    #[derive(Drop)]
+    struct Saying;
+
+    impl Cases for Saying {
+        type Call = u8;
+
+        fn call(name: &[u8]) -> Option<u8> {
+            name.first().copied().filter(|b| *b == b's')
+        }
+
+        fn set(&mut self, _name: &[u8], _items: &[u8]) -> Result<(), ListError> {
+            Err(ListError::Malformed)
+        }
+
+        fn run<W: Write>(&self, _call: u8, out: &mut W) -> io::Result<()> {
+            out.write_all(b": said")
+        }
+    }
+
+    /// An input that fails behind its bytes.
+    #[derive(Drop)]
+    struct Broken(&'static [u8]);
+
+    impl Read for Broken {
+        fn read(&mut self, buf: &mut [u8]) -> io::Result<usize> {
+            if self.0.is_empty() {
+                return Err(io::Error::from(ErrorKind::Other));
+            }
+            self.0.read(buf)
+        }
+    }
+
+    /// An output that takes no piece with a colon at its head.
+    #[derive(Drop)]
+    struct Refusing {
+        taken: Vec<u8>,
+    }
+
+    impl Write for Refusing {
+        fn write(&mut self, bytes: &[u8]) -> io::Result<usize> {
+            if bytes.starts_with(b":") {
+                return Err(io::Error::from(ErrorKind::Other));
+            }
+            self.taken.extend_from_slice(bytes)?;
+            Ok(bytes.len())
+        }
+
+        fn flush(&mut self) -> io::Result<()> {
+            Ok(())
+        }
+    }
+
+    #[test]
+    fn goes_on_where_reading_or_writing_fails(rt: HostRuntime) -> Result<(), Fail> {
+        let mut out = Refusing {
+            taken: Vec::new(rt.alloc()),
+        };
+        run(&mut Broken(b"s 1\nx\ns 2"), &mut out, &mut Saying);
+        assert_eq!(rt;
+            out.taken.as_slice(),
+            b"s 1\nmalformed: x\ns 2\n".as_slice()
+        );
+        Ok(())
+    }
+}

@@ -76,27 +76,48 @@ impl<T: Number, const MOST: usize> List<T, MOST> {
         Ok(())
     }
 
-    /// Adds the numbers of an item's group as often as is said.
+    /// Adds the numbers of an item's group as often as is said. A group that is one number is read once for all turns.
     fn add_item(&mut self, item: Item<'_>) -> Result<(), ListError> {
+        if let Some(number) = items::only_number(item.group) {
+            return self.add_times(item.times, number);
+        }
         for turn in 0..item.times {
-            for word in item
-                .group
-                .split(|b| *b == b' ')
-                .filter(|word| !word.is_empty())
-            {
-                self.add(items::number_in_turn(word, turn).ok_or(ListError::Malformed)?)?;
+            self.add_turn(item.group, turn)?;
+        }
+        Ok(())
+    }
+
+    /// Adds the numbers of a group as they are in one turn.
+    fn add_turn(&mut self, group: &[u8], turn: u32) -> Result<(), ListError> {
+        let mut rest = group;
+        while let Some((first, others)) = rest.split_first() {
+            if *first == b' ' {
+                rest = others;
+                continue;
             }
+            let (number, behind) = items::first_number(rest, turn).ok_or(ListError::Malformed)?;
+            self.add(number)?;
+            rest = behind;
+        }
+        Ok(())
+    }
+
+    /// Adds a number as often as is said.
+    fn add_times(&mut self, times: u32, number: u32) -> Result<(), ListError> {
+        for _ in 0..times {
+            self.add(number)?;
         }
         Ok(())
     }
 
     /// Adds a number, unless its type does not have it or the list has no room.
     fn add(&mut self, number: u32) -> Result<(), ListError> {
-        if self.size >= MOST {
+        let size = self.size;
+        if size >= MOST {
             return Err(ListError::Malformed);
         }
-        self.numbers[self.size] = T::from_u32(number).ok_or(ListError::Malformed)?;
-        self.size += 1;
+        self.numbers[size] = T::from_u32(number).ok_or(ListError::Malformed)?;
+        self.size = size + 1;
         Ok(())
     }
 }
@@ -131,10 +152,7 @@ mod tests {
     fn sets_what_a_line_says(rt: HostRuntime) -> Result<(), Fail> {
         let mut list: List<u32, 8> = List::new();
         assert!(rt; list.set(b" 05 2*7  2*(3 4+) 9+").is_ok());
-        assert_eq!(rt;
-            list.as_slice(),
-            [5, 7, 7, 3, 4, 3, 5, 9].as_slice()
-        );
+        assert_eq!(rt; list.as_slice(), [5, 7, 7, 3, 4, 3, 5, 9].as_slice());
         assert!(rt; list.set(b" 4294967295+ 0*(6 x) 7*0").is_ok());
         assert_eq!(rt;
             list.as_slice(),
@@ -154,12 +172,7 @@ mod tests {
         let mut array = [7; 3];
         assert!(rt; set_array(&mut array, b" 3*(1+)").is_ok());
         assert_eq!(rt; array, [1, 2, 3]);
-        assert!(rt;
-            matches!(
-                set_array(&mut array, b" 1 2"),
-                Err(ListError::Malformed)
-            )
-        );
+        assert!(rt; matches!(set_array(&mut array, b" 1 2"), Err(ListError::Malformed)));
         assert_eq!(rt; array, [0, 0, 0]);
         Ok(())
     }

@@ -74,7 +74,11 @@ impl Cases for Lists {
     }
 
     fn run<W: Write>(&self, call: Call, out: &mut W) -> io::Result<()> {
-        let (view, contents, strip) = (self.view(), self.contents.as_slice(), self.strip.as_slice());
+        let (view, contents, strip) = (
+            self.view(),
+            self.contents.as_slice(),
+            self.strip.as_slice(),
+        );
         let [rounds] = self.rounds;
         let done = match call {
             Call::Cached => lanes::cached_detach(view, contents, strip),

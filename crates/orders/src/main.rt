@@ -63,15 +63,11 @@ fn run<R: Print>(rt: &R, order: Order<'_>) {
         poisoned: order.poisoned,
     };
     let mut table = TABLE;
-    let lent = if order.has_room {
-        &mut table[..]
-    } else {
-        &mut table[..6]
-    };
+    let lent = if order.has_room { 12 } else { 6 };
     let mut record = [0; 3];
     let done = publish::publish(
         head,
-        lent,
+        &mut table[..lent],
         order.changes,
         &GUARDS,
         order.strip,
