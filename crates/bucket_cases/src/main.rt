@@ -8,8 +8,12 @@ use case_text::cases::Cases;
 use case_text::lists::{List, ListError};
 use case_text::writing::Listed;
 use case_text::{cases, lists};
-use std::alloc::Global;
 use std::io::{self, Write};
+
+/// The room of the output, and of the scratch.
+const OUTPUT: usize = 4200;
+
+const SCRATCH: usize = 2100;
 
 /// A bucket call.
 #[derive(Clone, Copy)]
@@ -28,8 +32,8 @@ struct Lists {
     stamp: [u32; 2],
     snapshot: [u32; 2],
     input: List<u32, 4200>,
-    output: List<u32, 4200>,
-    scratch: List<u32, 2100>,
+    output: List<u32, OUTPUT>,
+    scratch: List<u32, SCRATCH>,
 }
 
 /// The number of 64 bits that two halves say.
@@ -50,38 +54,40 @@ fn write_done<W: Write>(out: &mut W, answer: Answer, output: &[u32]) -> io::Resu
 }
 
 impl Lists {
-    fn new(alloc: Global) -> Self {
+    fn new() -> Self {
         Lists {
             count: [0],
             stamp: [0; 2],
             snapshot: [0; 2],
-            input: List::new(alloc),
-            output: List::new(alloc),
-            scratch: List::new(alloc),
+            input: List::new(),
+            output: List::new(),
+            scratch: List::new(),
         }
     }
 
     /// Runs the sorting engine, and writes what comes of it.
     fn sort<W: Write>(&self, out: &mut W) -> io::Result<()> {
-        let mut output = self.output.numbers.clone()?;
+        let mut output = [0; OUTPUT];
+        let output = self.output.copied_to(&mut output);
         let [count] = self.count;
-        let answer = buckets::canonical_buckets_sort(&self.input.numbers, count, &mut output);
-        write_done(out, answer, &output)
+        let answer = buckets::canonical_buckets_sort(self.input.as_slice(), count, output);
+        write_done(out, answer, output)
     }
 
     /// Runs the bitmap engine, and writes what comes of it.
     fn bitmap<W: Write>(&self, out: &mut W) -> io::Result<()> {
-        let mut output = self.output.numbers.clone()?;
-        let mut scratch = self.scratch.numbers.clone()?;
+        let (mut output, mut scratch) = ([0; OUTPUT], [0; SCRATCH]);
+        let output = self.output.copied_to(&mut output);
+        let scratch = self.scratch.copied_to(&mut scratch);
         let [count] = self.count;
         let answer = buckets::canonical_buckets_bitmap(
-            &self.input.numbers,
+            self.input.as_slice(),
             count,
-            &mut output,
-            &mut scratch,
+            output,
+            scratch,
         );
-        write_done(out, answer, &output)?;
-        write!(out, "; scratch{}", Listed(&scratch))
+        write_done(out, answer, output)?;
+        write!(out, "; scratch{}", Listed(scratch))
     }
 
     /// Runs the stamp test, and writes what comes of it.
@@ -106,11 +112,11 @@ impl Cases for Lists {
         }
     }
 
-    fn set(&mut self, alloc: Global, name: &[u8], items: &[u8]) -> Result<(), ListError> {
+    fn set(&mut self, name: &[u8], items: &[u8]) -> Result<(), ListError> {
         match name {
-            b"count" => lists::set_array(alloc, &mut self.count, items),
-            b"stamp" => lists::set_array(alloc, &mut self.stamp, items),
-            b"snapshot" => lists::set_array(alloc, &mut self.snapshot, items),
+            b"count" => lists::set_array(&mut self.count, items),
+            b"stamp" => lists::set_array(&mut self.stamp, items),
+            b"snapshot" => lists::set_array(&mut self.snapshot, items),
             b"input" => self.input.set(items),
             b"output" => self.output.set(items),
             b"scratch" => self.scratch.set(items),
@@ -127,6 +133,6 @@ impl Cases for Lists {
     }
 }
 
-fn main(rt: HostRuntime) -> io::Result<()> {
-    cases::run(&rt, &mut Lists::new(rt.alloc()))
+fn main(rt: HostRuntime) {
+    cases::run(&mut rt.stdin(), &mut rt.stdout(), &mut Lists::new());
 }

@@ -1,11 +1,12 @@
 // Goes through the lines of a text, sets the lists and runs the cases that they say.
+ghost use Rattle.std.specs.Prelude.{◌≤◌, length};
+
 use crate::items;
 use crate::lists::ListError;
-use std::alloc::Global;
-use std::io::{self, BufWriter, Read, Write};
+use std::io::{self, Read, Write};
 
 /// How many bytes of its input a program reads.
-const LIMIT: u64 = 65536;
+const LIMIT: usize = 65536;
 
 /// A program that runs cases: its lists, its calls, and what it writes of a case.
 pub trait Cases {
@@ -15,10 +16,28 @@ pub trait Cases {
     fn call(name: &[u8]) -> Option<Self::Call>;
 
     /// Sets the list of a name to the numbers that the items of a line say.
-    fn set(&mut self, alloc: Global, name: &[u8], items: &[u8]) -> Result<(), ListError>;
+    fn set(&mut self, name: &[u8], items: &[u8]) -> Result<(), ListError>;
 
     /// Runs a call on copies of the lists, so that the next one finds them as they were set, and writes what comes of it.
     fn run<W: Write>(&self, call: Self::Call, out: &mut W) -> io::Result<()>;
+}
+
+/// A writer that lets go what another does not take, and goes on with what follows: whoever runs these programs compares
+/// what they wrote. It never fails.
+#[derive(Drop)]
+struct Lenient<'a, W> {
+    out: &'a mut W,
+}
+
+impl<W: Write> Write for Lenient<'_, W> {
+    fn write(&mut self, bytes: &[u8]) -> io::Result<usize> {
+        let _ = self.out.write_all(bytes);
+        Ok(bytes.len())
+    }
+
+    fn flush(&mut self) -> io::Result<()> {
+        Ok(())
+    }
 }
 
 /// Runs the case of a line, and writes the line and what comes of it.
@@ -41,12 +60,7 @@ fn write_malformed<W: Write>(line: &[u8], out: &mut W) -> io::Result<()> {
 }
 
 /// Does what one line says: nothing if it is empty or a comment.
-fn run_line<C: Cases, W: Write>(
-    cases: &mut C,
-    alloc: Global,
-    line: &[u8],
-    out: &mut W,
-) -> io::Result<()> {
+fn run_line<C: Cases, W: Write>(cases: &mut C, line: &[u8], out: &mut W) -> io::Result<()> {
     if line.is_empty() || line.starts_with(b"#") {
         return Ok(());
     }
@@ -54,21 +68,105 @@ fn run_line<C: Cases, W: Write>(
     if let Some(call) = C::call(name) {
         return run_case(cases, call, line, out);
     }
-    match cases.set(alloc, name, items) {
+    match cases.set(name, items) {
         Ok(()) => Ok(()),
-        Err(ListError::Memory(error)) => Err(error.into()),
         Err(ListError::Malformed) => write_malformed(line, out),
     }
 }
 
-/// Does what each line of the input says, and writes what comes of the cases.
-pub fn run<R: Input + Print + AllocGlobal, C: Cases>(rt: &R, cases: &mut C) -> io::Result<()> {
-    let alloc = rt.alloc();
-    let mut text = Vec::new(alloc);
-    rt.reader().take(LIMIT).read_to_end(&mut text)?;
-    let mut out = BufWriter::new(alloc, io::writer(rt))?;
-    for line in text.split(|b| *b == b'\n') {
-        run_line(cases, alloc, line, &mut out)?;
+/// Reads a text as far as there is room, and answers how long it is. A read that fails ends it, as the input's end does.
+fn read_text<R: Read>(input: &mut R, text: &mut [u8]) -> usize
+    ensures { result ≤ length text.new }
+{
+    let mut size = 0;
+    while size < text.len() {
+        match input.read(&mut text[size..]) {
+            Ok(0) | Err(_) => break,
+            Ok(count) => size += count,
+        }
     }
-    out.flush()
+    size
+}
+
+/// Does what each line of the input says, and writes what comes of the cases.
+pub fn run<R: Read, W: Write, C: Cases>(input: &mut R, out: &mut W, cases: &mut C) {
+    let mut text = [0; LIMIT];
+    let size = read_text(input, &mut text);
+    let mut out = Lenient { out };
+    for line in text[..size].split(|b| *b == b'\n') {
+        let _ = run_line(cases, line, &mut out);
+    }
+}
+
+#[cfg(test)]
+mod tests {
+    use super::*;
+    use std::io::ErrorKind;
+    use std::test::Fail;
+
+    /// A program with no list and one call, which writes a word.
+    #[derive(Drop)]
+    struct Saying;
+
+    impl Cases for Saying {
+        type Call = u8;
+
+        fn call(name: &[u8]) -> Option<u8> {
+            name.first().copied().filter(|b| *b == b's')
+        }
+
+        fn set(&mut self, _name: &[u8], _items: &[u8]) -> Result<(), ListError> {
+            Err(ListError::Malformed)
+        }
+
+        fn run<W: Write>(&self, _call: u8, out: &mut W) -> io::Result<()> {
+            out.write_all(b": said")
+        }
+    }
+
+    /// An input that fails behind its bytes.
+    #[derive(Drop)]
+    struct Broken(&'static [u8]);
+
+    impl Read for Broken {
+        fn read(&mut self, buf: &mut [u8]) -> io::Result<usize> {
+            if self.0.is_empty() {
+                return Err(io::Error::from(ErrorKind::Other));
+            }
+            self.0.read(buf)
+        }
+    }
+
+    /// An output that takes no piece with a colon at its head.
+    #[derive(Drop)]
+    struct Refusing {
+        taken: Vec<u8>,
+    }
+
+    impl Write for Refusing {
+        fn write(&mut self, bytes: &[u8]) -> io::Result<usize> {
+            if bytes.starts_with(b":") {
+                return Err(io::Error::from(ErrorKind::Other));
+            }
+            self.taken.extend_from_slice(bytes)?;
+            Ok(bytes.len())
+        }
+
+        fn flush(&mut self) -> io::Result<()> {
+            Ok(())
+        }
+    }
+
+    #[test]
+    fn goes_on_where_reading_or_writing_fails(rt: HostRuntime) -> Result<(), Fail> {
+        let mut out = Refusing {
+            taken: Vec::new(rt.alloc()),
+        };
+        run(&mut Broken(b"s 1\nx\ns 2"), &mut out, &mut Saying);
+        assert_eq!(rt;
+            out.taken.as_slice(),
+            b"s 1\nmalformed: x\ns 2\n".as_slice()
+        );
+        Ok(())
+    }
 }

@@ -1,8 +1,6 @@
 // Reads the items of a list's line, which are `v`, `n*v` and `n*(v w+ ..)`.
 ghost use Rattle.std.specs.Prelude.{◌+◌, ◌++◌, ◌≡◌, ◌<◌, ◌≤◌, length, IfSome, IsSome};
 
-use std::str;
-
 /// A group of numbers, and how often it is said.
 #[derive(Clone, Copy)]
 pub struct Item<'a> {
@@ -20,20 +18,48 @@ pub fn cut<F: FnMut(&u8) -> bool + Drop>(text: &[u8], test: F) -> (&[u8], &[u8])
     text.split_at(end)
 }
 
-/// The number that a word says by digits alone: `parse` would take a sign too.
-fn number(word: &[u8]) -> Option<u32> {
-    if !word.iter().all(u8::is_ascii_digit) {
+/// The number that a text begins with by digits alone (`parse` would take a sign too), and the text behind them.
+fn number(text: &[u8]) -> Option<(u32, &[u8])>
+    ensures { IfSome result (λ (number, behind). length behind.now < length text.now) }
+{
+    let (mut number, mut rest) = (0u32, text);
+    while let Some((digit, others)) = rest.split_first() {
+        if !digit.is_ascii_digit() {
+            break;
+        }
+        number = number
+            .checked_mul(10)?
+            .checked_add(u32::from(*digit - b'0'))?;
+        rest = others;
+    }
+    if rest.len() == text.len() {
         return None;
     }
-    str::from_utf8(word).ok()?.parse().ok()
+    Some((number, rest))
 }
 
-/// The number that a word says in a group's turn: `v+` is more by one at each turn.
-pub fn number_in_turn(word: &[u8], turn: u32) -> Option<u32> {
-    match word.strip_suffix(b"+") {
-        Some(first) => number(first)?.checked_add(turn),
-        None => number(word),
+/// The number that is all of a text.
+pub fn only_number(text: &[u8]) -> Option<u32> {
+    match number(text)? {
+        (number, []) => Some(number),
+        _ => None,
     }
+}
+
+/// The number of a text's first word as it is in a group's turn, where `v+` is more by one at each turn, and the text behind
+/// the word.
+pub fn first_number(text: &[u8], turn: u32) -> Option<(u32, &[u8])>
+    ensures { IfSome result (λ (number, behind). length behind.now < length text.now) }
+{
+    let (first, after) = number(text)?;
+    let (number, behind) = match after.strip_prefix(b"+") {
+        Some(behind) => (first.checked_add(turn)?, behind),
+        None => (first, after),
+    };
+    if behind.first().is_some_and(|b| *b != b' ') {
+        return None;
+    }
+    Some((number, behind))
 }
 
 /// An item and the text behind it. A group begins with a number, so that each turn fills some of a list's room.
@@ -71,11 +97,10 @@ fn plain(times: u32, text: &[u8]) -> Option<(Item<'_>, &[u8])>
 pub fn first_item(text: &[u8]) -> Option<(Item<'_>, &[u8])>
     ensures { IfSome result (λ (item, behind). length behind.now < length text.now) }
 {
-    let (times, after) = cut(text, |b| !b.is_ascii_digit());
+    let (times, after) = number(text)?;
     let Some(said) = after.strip_prefix(b"*") else {
         return plain(1, text);
     };
-    let times = number(times)?;
     match said.strip_prefix(b"(") {
         Some(inside) => bracketed(times, inside),
         None => plain(times, said),

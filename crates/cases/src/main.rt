@@ -8,8 +8,12 @@ use case_text::lists::{List, ListError};
 use case_text::writing::Listed;
 use case_text::{cases, lists};
 use rules::{Done, Head};
-use std::alloc::Global;
 use std::io::{self, Write};
+
+/// The room of the table, and of the record list.
+const TABLE: usize = 12300;
+
+const RECORD: usize = 300;
 
 /// A posting call.
 #[derive(Clone, Copy, PartialEq, Eq)]
@@ -30,20 +34,20 @@ struct Lists {
     changes: List<u32, 1600>,
     guards: List<u32, 2100>,
     strip: List<u8, 1100>,
-    record: List<u32, 300>,
-    table: List<u32, 12300>,
+    record: List<u32, RECORD>,
+    table: List<u32, TABLE>,
 }
 
 impl Lists {
-    fn new(alloc: Global) -> Self {
+    fn new() -> Self {
         Lists {
             head: [0; 3],
             ask: [0; 2],
-            changes: List::new(alloc),
-            guards: List::new(alloc),
-            strip: List::new(alloc),
-            record: List::new(alloc),
-            table: List::new(alloc),
+            changes: List::new(),
+            guards: List::new(),
+            strip: List::new(),
+            record: List::new(),
+            table: List::new(),
         }
     }
 
@@ -69,9 +73,9 @@ impl Lists {
     fn run_on(&self, call: Call, table: &mut [u32], record: &mut [u32]) -> Done {
         let head = self.head();
         let (changes, guards, strip) = (
-            &self.changes.numbers,
-            &self.guards.numbers,
-            &self.strip.numbers,
+            self.changes.as_slice(),
+            self.guards.as_slice(),
+            self.strip.as_slice(),
         );
         match call {
             Call::Prepare => publish::prepare_index_destinations(
@@ -135,10 +139,10 @@ impl Cases for Lists {
         }
     }
 
-    fn set(&mut self, alloc: Global, name: &[u8], items: &[u8]) -> Result<(), ListError> {
+    fn set(&mut self, name: &[u8], items: &[u8]) -> Result<(), ListError> {
         match name {
-            b"head" => lists::set_array(alloc, &mut self.head, items),
-            b"ask" => lists::set_array(alloc, &mut self.ask, items),
+            b"head" => lists::set_array(&mut self.head, items),
+            b"ask" => lists::set_array(&mut self.ask, items),
             b"changes" => self.changes.set(items),
             b"guards" => self.guards.set(items),
             b"strip" => self.strip.set(items),
@@ -149,14 +153,15 @@ impl Cases for Lists {
     }
 
     fn run<W: Write>(&self, call: Call, out: &mut W) -> io::Result<()> {
-        let mut table = self.table.numbers.clone()?;
-        let mut record = self.record.numbers.clone()?;
-        let done = self.run_on(call, &mut table, &mut record);
+        let (mut table, mut record) = ([0; TABLE], [0; RECORD]);
+        let table = self.table.copied_to(&mut table);
+        let record = self.record.copied_to(&mut record);
+        let done = self.run_on(call, table, record);
         write_answer(out, done)?;
-        write_state(out, call, done.head, &table, &record)
+        write_state(out, call, done.head, table, record)
     }
 }
 
-fn main(rt: HostRuntime) -> io::Result<()> {
-    cases::run(&rt, &mut Lists::new(rt.alloc()))
+fn main(rt: HostRuntime) {
+    cases::run(&mut rt.stdin(), &mut rt.stdout(), &mut Lists::new());
 }

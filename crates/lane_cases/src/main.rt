@@ -7,7 +7,6 @@ use case_text::cases::Cases;
 use case_text::lists::{List, ListError};
 use case_text::{cases, lists};
 use lane_rules::View;
-use std::alloc::Global;
 use std::io::{self, Write};
 
 /// A lane call.
@@ -30,12 +29,12 @@ struct Lists {
 }
 
 impl Lists {
-    fn new(alloc: Global) -> Self {
+    fn new() -> Self {
         Lists {
             view: [0; 5],
             rounds: [0],
-            contents: List::new(alloc),
-            strip: List::new(alloc),
+            contents: List::new(),
+            strip: List::new(),
         }
     }
 
@@ -64,10 +63,10 @@ impl Cases for Lists {
         }
     }
 
-    fn set(&mut self, alloc: Global, name: &[u8], items: &[u8]) -> Result<(), ListError> {
+    fn set(&mut self, name: &[u8], items: &[u8]) -> Result<(), ListError> {
         match name {
-            b"view" => lists::set_array(alloc, &mut self.view, items),
-            b"rounds" => lists::set_array(alloc, &mut self.rounds, items),
+            b"view" => lists::set_array(&mut self.view, items),
+            b"rounds" => lists::set_array(&mut self.rounds, items),
             b"contents" => self.contents.set(items),
             b"strip" => self.strip.set(items),
             _ => Err(ListError::Malformed),
@@ -75,7 +74,11 @@ impl Cases for Lists {
     }
 
     fn run<W: Write>(&self, call: Call, out: &mut W) -> io::Result<()> {
-        let (view, contents, strip) = (self.view(), &self.contents.numbers, &self.strip.numbers);
+        let (view, contents, strip) = (
+            self.view(),
+            self.contents.as_slice(),
+            self.strip.as_slice(),
+        );
         let [rounds] = self.rounds;
         let done = match call {
             Call::Cached => lanes::cached_detach(view, contents, strip),
@@ -94,6 +97,6 @@ impl Cases for Lists {
     }
 }
 
-fn main(rt: HostRuntime) -> io::Result<()> {
-    cases::run(&rt, &mut Lists::new(rt.alloc()))
+fn main(rt: HostRuntime) {
+    cases::run(&mut rt.stdin(), &mut rt.stdout(), &mut Lists::new());
 }

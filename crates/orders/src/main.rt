@@ -3,28 +3,30 @@
 #![tactic(auto)]
 
 use rules::Head;
-use std::io;
 
 /// The guards that every order holds.
 const GUARDS: [u32; 6] = [0, 5, 0, 6, 1, 9];
+
+/// The table that every order finds: it has two postings, and room for two more.
+const TABLE: [u32; 12] = [0, 5, 1, 0, 5, 2, 0, 0, 0, 0, 0, 0];
 
 /// An order, and what it is published on.
 #[derive(Clone, Copy)]
 struct Order<'a> {
     letter: char,
     poisoned: u32,
-    table: &'a [u32],
+    has_room: bool,
     changes: &'a [u32],
     strip: &'a [u8],
 }
 
 impl<'a> Order<'a> {
-    /// An order on a clean head, and on a table that has two postings and room for two more.
+    /// An order on a clean head, and on the whole table.
     fn new(letter: char, changes: &'a [u32]) -> Self {
         Order {
             letter,
             poisoned: 0,
-            table: &[0, 5, 1, 0, 5, 2, 0, 0, 0, 0, 0, 0],
+            has_room: true,
             changes,
             strip: &[],
         }
@@ -46,37 +48,39 @@ impl<'a> Order<'a> {
     /// The order on the table cut to its two postings.
     fn cut(self) -> Self {
         Order {
-            table: &[0, 5, 1, 0, 5, 2],
+            has_room: false,
             ..self
         }
     }
 }
 
-/// Publishes an order on a copy of its table, and writes its line.
-fn run<R: Print + AllocGlobal>(rt: &R, order: Order<'_>) -> io::Result<()> {
+/// Publishes an order on a copy of the table, and writes its line. A line that cannot be written is let go, and the next is
+/// tried: whoever runs the orders compares what they wrote.
+fn run<R: Print>(rt: &R, order: Order<'_>) {
     let head = Head {
         bindings: 2,
         used: 2,
         poisoned: order.poisoned,
     };
-    let mut table = order.table.to_vec(rt.alloc())?;
+    let mut table = TABLE;
+    let lent = if order.has_room { 12 } else { 6 };
     let mut record = [0; 3];
     let done = publish::publish(
         head,
-        &mut table,
+        &mut table[..lent],
         order.changes,
         &GUARDS,
         order.strip,
         &mut record,
     );
     let told = rules::Told::from(done.answer);
-    println!(rt;
+    let _ = println!(rt;
         "{} {} {} {}",
         order.letter, told.answer, done.head.used, done.head.poisoned
-    )
+    );
 }
 
-fn main(rt: HostRuntime) -> io::Result<()> {
+fn main(rt: HostRuntime) {
     let moved = [0, 1, 1, 5, 1, 6];
     let three = [1, 7, 0, 0, 1, 9, 1, 8, 0, 0, 1, 9, 1, 9, 0, 0, 1, 9];
     let both = [0, 1, 1, 5, 1, 6, 0, 2, 1, 5, 1, 6];
@@ -97,7 +101,6 @@ fn main(rt: HostRuntime) -> io::Result<()> {
         Order::new('N', &[]),
     ];
     for order in orders {
-        run(&rt, order)?;
+        run(&rt, order);
     }
-    Ok(())
 }
