@@ -25,7 +25,7 @@ impl<'a, 's> Storage<'a, 's> {
     ghost use Rattle.storage.specs.Leaving.{holding, InsertionIn, RemovalIn};
 
     // Byte 0 inserts, or fails full where there is no room; byte 1 or 2 fails unchanged.
-    #[tactic(auto, using(table::proofs::Keeping::carries_ordered, table::proofs::Keeping::carries_postings), unfolding(rules::specs::Storage::insertion))]
+    #[tactic(auto, using(crate::proofs::Bytes::stored_is, crate::proofs::Bytes::full_is, crate::proofs::Bytes::clear_is, table::proofs::Keeping::carries_ordered, table::proofs::Keeping::carries_postings))]
     pub fn insert(&mut self, p: Posting) -> Result<(), Fault>
         ensures { InsertionIn (insertion (byte_at self.old.strip.now 0) (capacity self.old.numbers.now) p (holding self.old))
             result self.old self.new }
@@ -42,7 +42,7 @@ impl<'a, 's> Storage<'a, 's> {
     }
 
     // Byte 0 removes; byte 1 fails unchanged; byte 2 fails with the posting gone.
-    #[tactic(auto, using(table::proofs::Keeping::carries_ordered, table::proofs::Keeping::carries_postings), unfolding(rules::specs::Storage::removal))]
+    #[tactic(auto, using(crate::proofs::Bytes::kept_is, crate::proofs::Bytes::gone_is, table::proofs::Keeping::carries_ordered, table::proofs::Keeping::carries_postings))]
     pub fn remove(&mut self, p: Posting) -> Result<(), Fault>
         ensures { RemovalIn (removal (byte_at self.old.strip.now 0) p (holding self.old)) result self.old self.new }
     {
