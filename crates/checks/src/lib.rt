@@ -62,13 +62,14 @@ pub fn proper_lists(list: &[u32], paired: bool) -> Option<Changes>
     }
 }
 
-// The pair (binding, key) is among these. By its two numbers: with `contains(&[binding, key])` the proof did not close by itself.
+// The pair (binding, key) is among these. By its two numbers: with `contains(&[binding, key])` the proof did not close by itself. Both
+// are looked at in each pair, since a processor can't guess which pairs have the binding and not the key.
 fn is_among(pairs: &[[u32; 2]], binding: u32, key: u32) -> bool
     ensures { result ≡ list_any (is_pair binding key) pairs.now }
 {
     pairs
         .iter()
-        .any(|pair| binding == pair[0] && key == pair[1])
+        .any(|pair| (binding == pair[0]) & (key == pair[1]))
 }
 
 // The pair (binding, key) is among the guards, which lie two numbers to each.
