@@ -17,7 +17,8 @@ fn cached_answer(mut strip: &[u8], view: &mut View) -> Answer
     ensures { record { view = view.new; answer = result } ≡ cached_of view.old strip.now }
 {
     entry_checks(*view, strip)?;
-    Ok(u32::from(cached_pass(&mut strip, view)?))
+    let said = cached_pass(&mut strip, view);
+    Ok(u32::from(said?))
 }
 
 // The refreshed pass, unless a check refuses it. One function for both passes is no plainer: it would be given the checks and the pass as
