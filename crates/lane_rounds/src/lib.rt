@@ -48,7 +48,9 @@ fn rounds_of(mut strip: &[u8], lent: u32, view: &mut View) -> Answer
     ensures view { let v = view.old in let e = rounds strip.now v.height lent 0 v.attached v.window 0 in
         view.new ≡ view_with v e.attached e.window v.retired }
 {
-    for left in (0..lent).rev() {
+    let mut left = lent;
+    while left > 0 {
+        left -= 1;
         let made = lent - left;
         if round_of(&mut strip, view).map_err(|_| Failure::Offset(made))? {
             return Ok(made);
