@@ -10,18 +10,18 @@ unfolding cached_of
 returns-in_err-entry_checks c =
     refused c.args.view.now _ _ _ _ _ c.entry_checks.ensures c.in_err-entry_checks.was (search rules)
 
-pub returns-in_err-cached_pass : goal.returns-in_err-cached_pass
+pub returns-in_err-said : goal.returns-in_err-said
 unfolding cached_of
-returns-in_err-cached_pass c =
+returns-in_err-said c =
     let work = cached_work c.args.view.now c.args.strip.now in
     worked _ _ _ _ _ _ c.entry_checks.ensures c.in_ok-entry_checks.was
-    (pass_failed c.args.view.now _ work _ _ c.cached_pass.ensures.said c.cached_pass.ensures.view
-    c.in_err-cached_pass.was (search rules))
+    (pass_failed c.args.view.now _ work _ _ c.cached_pass-said.ensures.said (rw c.cached_pass-said.ensures.view)
+    c.in_err-said.was (search rules))
 
 pub returns : goal.returns
 unfolding cached_of
 returns c =
     let work = cached_work c.args.view.now c.args.strip.now in
     worked _ _ _ _ _ _ c.entry_checks.ensures c.in_ok-entry_checks.was
-    (pass_told c.args.view.now _ work _ _ c.cached_pass.ensures.said c.cached_pass.ensures.view
-    _ c.in_ok-cached_pass.was (search rules))
+    (pass_told c.args.view.now _ work _ _ c.cached_pass-said.ensures.said (rw c.cached_pass-said.ensures.view)
+    _ c.in_ok-said.was (search rules))
