@@ -79,6 +79,7 @@ fn bring_and_clear(storage: &mut Storage, list: Changes, record: &mut [u32]) -> 
 }
 
 // Accepted where every destination came in.
+#[tactic(auto, using(crate::proofs::Showing::used_fits))]
 pub fn prepare(
     head: Head,
     table: &mut [u32],
@@ -97,6 +98,7 @@ pub fn prepare(
 }
 
 // Accepted where every destination came in and every source went.
+#[tactic(auto, using(crate::proofs::Showing::used_fits))]
 pub fn publish(
     head: Head,
     table: &mut [u32],
@@ -115,6 +117,7 @@ pub fn publish(
 }
 
 // Accepted where no removal failed, else 12 with the last change whose removal did.
+#[tactic(auto, using(crate::proofs::Showing::used_fits))]
 pub fn rollback(head: Head, table: &mut [u32], list: Changes, strip: &[u8], record: &[u32]) -> Done
     requires table_formed { well_formed head table.old ≡ true }
     requires record_in_bounds { every (λ n. ltb n (length (changes list.numbers.now))) «record».now ≡ true }
@@ -127,6 +130,7 @@ pub fn rollback(head: Head, table: &mut [u32], list: Changes, strip: &[u8], reco
 }
 
 // Accepted where no removal failed, else 13 with the change whose removal did.
+#[tactic(auto, using(crate::proofs::Showing::used_fits))]
 pub fn remove(head: Head, table: &mut [u32], list: Changes, strip: &[u8]) -> Done
     requires { well_formed head table.old ≡ true }
     ensures { outcome_of result table.new [] ≡ removal_work head table.old (changes list.entry.numbers.now) strip.now [] }
