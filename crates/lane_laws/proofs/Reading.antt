@@ -1,17 +1,18 @@
 -- The bytes of the strip that each part reads: at most one to a lane and a refresh, and at least two in a round that says no.
-use Prim.Native.Nat.{ℕ, zero, suc, ◌+◌, ◌≤◌}
+use Prim.Native.Nat.{ℕ, zero, suc, ◌+◌, ◌*◌, ◌≤◌}
 use native.Mathlib.Omega.{arith}
 use mathlib.Core.Path.{◌≡◌, refl, sym, ◌∙◌}
 use mathlib.Core.List.{List}
 use mathlib.Core.Bool.{cond, true, false}
 use Rattle.strips.specs.Strips.{byte_at}
 use Rattle.booleans.proofs.Tests.{by_cases}
-use Rattle.masks.specs.Masks.{lane_in}
+use Rattle.masks.specs.Masks.{most_lanes, lane_in}
 use Rattle.lane_rules.specs.Steps.{compared, refreshed, error_met, Compared}
 use Rattle.lane_rules.specs.Passes.{by_said, failed, cached_pass, try_lane, refreshed_from, Pass}
-use Rattle.lane_rules.specs.Rounds.{round, Round}
+use Rattle.lane_rules.specs.Rounds.{round, rounds, detaching, Round, Ended}
 use Rattle.lane_laws.proofs.Cases.{by_said_lem, yes_not_no, error_not_no}
 use Rattle.std.proofs.Common.{Ok, is_err}
+use Rattle.std.proofs.Math.Nat.{mul-le-mul_left}
 
 -- a part of a call that began where `from` bytes were read has read at least `least` and at most `most` of them
 pub record Reads (from least most read : ℕ) : Type 0 where
@@ -102,3 +103,39 @@ module _ (strip : List ℕ) (height : ℕ) where
       by_cases (λ (r : Round). r.said ≡ Ok false → read + 2 ≤ r.read) (is_err f.said)
       (λ e n. absurd (error_not_no n))
       (λ e n. let a = no_reads strip f.window height (begun f.attached (read + 1)) refl n in omega arith)
+
+  -- so many rounds read at most that much each
+  pub rounds_reads :
+      (left made attached window read : ℕ) →
+      (rounds strip height left made attached window read).read ≤ read + left * (height + 1)
+  unfolding rounds
+  rounds_reads zero made attached window read = omega arith
+  rounds_reads (suc left) made attached window read =
+      let r = round strip height attached window read in
+      let once : r.read ≤ read + (height + 1) = (round_reads attached window read).high in
+      by_said_lem (λ (e : Ended). e.read ≤ read + suc left * (height + 1)) r.said
+      (λ s. omega arith)
+      (λ s. let more = rounds_reads left (made + 1) r.attached r.window r.read in omega arith)
+      (λ s. omega arith)
+
+  -- and a detach at most a byte to a lane more, for its cached pass
+  pub detaching_reads :
+      (lent attached window : ℕ) → (detaching strip height lent attached window).read ≤ height + lent * (height + 1)
+  unfolding detaching
+  detaching_reads lent attached window =
+      let p = cached_pass strip height window attached 0 in
+      let first : p.read ≤ 0 + height = (cached_reads strip window height attached 0).high in
+      by_said_lem (λ (e : Ended). e.read ≤ height + lent * (height + 1)) p.said
+      (λ s. omega arith)
+      (λ s. let more = rounds_reads lent 0 p.attached window p.read in omega arith)
+      (λ s. omega arith)
+
+  -- so at most 32 for its cached pass, and 33 for each round
+  pub detaching_most :
+      (lent attached window : ℕ) → height ≤ most_lanes →
+      (detaching strip height lent attached window).read ≤ most_lanes + lent * (most_lanes + 1)
+  detaching_most lent attached window k =
+      let all = detaching_reads lent attached window in
+      let each : height + 1 ≤ most_lanes + 1 = omega arith in
+      let more : lent * (height + 1) ≤ lent * (most_lanes + 1) = mul-le-mul_left lent each in
+      omega arith

@@ -1,5 +1,5 @@
 -- A round by its refresh, and the rounds turn by turn: where this one comes next, the rounds from the start are the rounds from here.
-use Rattle.std.proofs.Common.{◌≡◌, ℕ, suc, ◌+◌, ◌-◌, ◌≤◌, ◌<◌, List, Bool, true, false, Result, Ok, Err, MatchResult, IsErrAnd, drop, refl, sym, ap, ◌∙◌, arith}
+use Rattle.std.proofs.Common.{◌≡◌, ℕ, suc, ◌+◌, ◌-◌, ◌*◌, ◌≤◌, ◌<◌, List, Bool, true, false, Result, Ok, Err, MatchResult, IsErrAnd, drop, refl, sym, ap, ◌∙◌, arith}
 use Rattle.std.proofs.lemmas.List.{drop-drop}
 use Rattle.strips.specs.Strips.{byte_at}
 use Rattle.lane_rules.specs.declared.ErrorByte.{ErrorByte}
@@ -11,7 +11,7 @@ use Rattle.lane_rules.specs.Rounds.{Round, Ended, round, rounds, detaching}
 use Rattle.lane_rules.specs.Calls.{view_with}
 use Rattle.lane_laws.specs.Clauses.{refreshed_by, round_from}
 use Rattle.lane_laws.specs.Ends.{cached_work, refreshed_work, detach_work}
-use Rattle.lane_laws.proofs.Reading.{begun}
+use Rattle.lane_laws.proofs.Reading.{begun, round_reads}
 use Rattle.lane_rounds.proofs.Ahead.{round_ahead, refreshed_from_ahead, round_from_ahead, rounds_ahead}
 
 -- a word that is told otherwise only where it is an error
@@ -51,9 +51,10 @@ module _ (strip next : List ℕ) (v w : View) (byte : ℕ) (said : Result Unit E
       rw (c, g, m, f, d, b, passed, refreshed_from_ahead strip 1 v.height a.window (begun a.attached 0))
       (refl, refl, drop-drop p.read 1 strip)
 
--- a detach ends with an answer and this view
-abbrev pub Ends : View → View → Result ℕ Failure → Ended → Type 0
-Ends start now answer e = (answer ≡ e.answer) × (now ≡ view_with start e.attached e.window start.retired)
+-- a detach ends with an answer, this strip and this view
+abbrev pub Ends : List ℕ → View → List ℕ → View → Result ℕ Failure → Ended → Type 0
+Ends strip start rest now answer e =
+    (answer ≡ e.answer) × (now ≡ view_with start e.attached e.window start.retired) × (rest ≡ drop e.read strip)
 
 -- all the rounds that are lent
 abbrev pub rounds_of : List ℕ → ℕ → View → Ended
@@ -64,14 +65,21 @@ abbrev pub SameElse : View → View → Type 0
 SameElse a b = b ≡ view_with a b.attached b.window a.retired
 
 ends :
-    (start now : View) (answer : Result ℕ Failure) (e : Ended) (read : ℕ) → SameElse start now →
-    e ≡ record { answer = answer; attached = now.attached; window = now.window; read = read } → Ends start now answer e
-ends start now answer e read v h = rw h (refl, v)
+    (strip : List ℕ) (start : View) (rest : List ℕ) (now : View) (answer : Result ℕ Failure) (e : Ended) (read : ℕ) →
+    SameElse start now → rest ≡ drop read strip →
+    e ≡ record { answer = answer; attached = now.attached; window = now.window; read = read } →
+    Ends strip start rest now answer e
+ends strip start rest now answer e read v u h = rw h (refl, v, u)
 
--- so many rounds are left
+-- a round more, with a byte for its refresh and at most one to a lane
+one_more : (made height read more : ℕ) → read ≤ made * (height + 1) → more ≤ height + 1 → read + more ≤ (made + 1) * (height + 1)
+one_more made height read more a b = omega arith
+
+-- so many rounds are left; each round made has read at most a byte for its refresh and one to a lane
 pub record Rounding (strip : List ℕ) (lent : ℕ) (start : View) (rest : List ℕ) (now : View) (left : ℕ) : Type 0 where
   pub low : left ≤ lent
   pub read : ℕ
+  pub few : read ≤ (lent - left) * (start.height + 1)
   pub unread : rest ≡ drop read strip
   pub same : SameElse start now
   pub is : rounds_of strip lent start ≡ rounds strip start.height left (lent - left) now.attached now.window read
@@ -82,6 +90,7 @@ rounding_start strip lent start =
     record {
       low = omega arith;
       read = 0;
+      few = omega arith;
       unread = refl;
       same = refl;
       is = ap (λ (n : ℕ). rounds strip start.height lent n start.attached start.window 0) (sym none);
@@ -90,11 +99,11 @@ rounding_start strip lent start =
 module _ {strip : List ℕ} {lent : ℕ} {start : View} {rest : List ℕ} {now : View} {left : ℕ}
     (z : Rounding strip lent start rest now left) where
   -- the rounds lent are used up
-  pub rounding_end : left ≡ 0 → Ends start now (Err (Failure.Budget lent)) (rounds_of strip lent start)
+  pub rounding_end : left ≡ 0 → Ends strip start rest now (Err (Failure.Budget lent)) (rounds_of strip lent start)
   unfolding rounds
   rounding_end e =
       let all : lent - left ≡ lent = omega arith in
-      ends start now (Err (Failure.Budget lent)) _ z.read z.same (z.is ∙ rw (all, e))
+      ends strip start rest now (Err (Failure.Budget lent)) _ z.read z.same z.unread (z.is ∙ rw (all, e))
 
   -- the round from here, as one behind all that was read
   here : round strip start.height now.attached now.window z.read ≡ round_ahead z.read (round_from now rest 0)
@@ -134,43 +143,52 @@ module _ {strip : List ℕ} {lent : ℕ} {start : View} {rest : List ℕ} {now :
         let r = round_from now rest 0 in
         rw e.1 (ap (λ (v : View). view_with v r.attached r.window v.retired) z.same)
 
-    -- a round that says yes, one that fails, and one that says no
-    pub rounding_yes : said ≡ Ok true → Ends start w (Ok made) (rounds_of strip lent start)
-    rounding_yes s = ends start w (Ok made) _ read same (goes ∙ rw s)
+    -- and so many bytes of the strip are read
+    unread : m ≡ drop read strip
+    unread = rw (e.2, z.unread) (drop-drop (round_from now (drop z.read strip) 0).read z.read strip)
 
-    pub rounding_error : said ≡ error_met → Ends start w (Err (Failure.Offset made)) (rounds_of strip lent start)
-    rounding_error s = ends start w (Err (Failure.Offset made)) _ read same (goes ∙ rw s)
+    -- at most as many as the rounds made can read
+    few : read ≤ made * (start.height + 1)
+    few =
+        let low = z.low in
+        let lanes : now.height ≡ start.height = ap (λ (v : View). v.height) z.same in
+        let once = (round_reads rest now.height now.attached now.window 0).high in
+        let most : (round_from now rest 0).read ≤ start.height + 1 = omega arith in
+        let next : lent - (left - 1) ≡ lent - left + 1 = omega arith in
+        rw next (one_more (lent - left) start.height z.read (round_from now rest 0).read z.few most)
+
+    -- a round that says yes, one that fails, and one that says no
+    pub rounding_yes : said ≡ Ok true → Ends strip start m w (Ok made) (rounds_of strip lent start)
+    rounding_yes s = ends strip start m w (Ok made) _ read same unread (goes ∙ rw s)
+
+    pub rounding_error : said ≡ error_met → Ends strip start m w (Err (Failure.Offset made)) (rounds_of strip lent start)
+    rounding_error s = ends strip start m w (Err (Failure.Offset made)) _ read same unread (goes ∙ rw s)
 
     pub rounding_no : said ≡ Ok false → Rounding strip lent start m w (left - 1)
     rounding_no s =
         let low = z.low in
-        record {
-          low = omega arith;
-          read = read;
-          unread = rw (e.2, z.unread) (drop-drop (round_from now (drop z.read strip) 0).read z.read strip);
-          same = same;
-          is = goes ∙ rw s;
-        }
+        record { low = omega arith; read = read; few = few; unread = unread; same = same; is = goes ∙ rw s }
 
 -- what follows a cached pass: it ends with a yes or an error, and after a no come the rounds
 module _ (strip : List ℕ) (lent : ℕ) (start w : View) (m : List ℕ) (said : Result Bool ErrorByte)
     (e : said ≡ (cached_work start strip).said)
     (f : w ≡ view_with start (cached_work start strip).attached start.window start.retired)
     (g : m ≡ drop (cached_work start strip).read strip) where
-  pub detaching_yes : said ≡ Ok true → Ends start w (Ok 0) (detach_work start strip lent)
+  pub detaching_yes : said ≡ Ok true → Ends strip start m w (Ok 0) (detach_work start strip lent)
   unfolding detaching
-  detaching_yes s = rw (f, ← e, s) (refl, refl)
+  detaching_yes s = rw (f, g, ← e, s) (refl, refl, refl)
 
-  pub detaching_error : said ≡ error_met → Ends start w (Err (Failure.Offset 0)) (detach_work start strip lent)
+  pub detaching_error : said ≡ error_met → Ends strip start m w (Err (Failure.Offset 0)) (detach_work start strip lent)
   unfolding detaching
-  detaching_error s = rw (f, ← e, s) (refl, refl)
+  detaching_error s = rw (f, g, ← e, s) (refl, refl, refl)
 
   pub detaching_no :
-      said ≡ Ok false → (t : Result ℕ Failure) (u : View) → Ends w u t (rounds_of m lent w) →
-      Ends start u t (detach_work start strip lent)
+      said ≡ Ok false → (t : Result ℕ Failure) (rest : List ℕ) (u : View) → Ends m w rest u t (rounds_of m lent w) →
+      Ends strip start rest u t (detach_work start strip lent)
   unfolding detaching
-  detaching_no s t u k =
+  detaching_no s t rest u k =
       let p = cached_work start strip in
       let none : p.read + 0 ≡ p.read = omega arith in
       let ahead = rw none at (rounds_ahead strip p.read start.height lent 0 p.attached start.window 0) in
-      rw (k.0, k.1, f, g, ← e, s, ahead) (refl, refl)
+      rw (k.0, k.1, k.2, f, g, ← e, s, ahead)
+      (refl, refl, drop-drop (rounds (drop p.read strip) start.height lent 0 p.attached start.window 0).read p.read strip)

@@ -2,7 +2,7 @@
 // not delivered.
 #![tactic(auto)]
 
-ghost use Rattle.std.specs.Prelude.{◌≡◌, drop};
+ghost use Rattle.std.specs.Prelude.{◌+◌, ◌*◌, ◌≤◌, ◌≡◌, drop};
 ghost use Rattle.lane_rules.specs.Steps.{refreshed};
 ghost use Rattle.lane_rules.specs.Rounds.{rounds};
 ghost use Rattle.lane_rules.specs.Calls.{view_with};
@@ -43,29 +43,33 @@ fn round_of(strip: &mut &[u8], view: &mut View) -> Said
 
 // Rounds until a yes, from where another part of the call left off, at most as many as are lent. The rounds left fall; those made are
 // told, each refresh begun counting, a failed one too.
-fn rounds_of(mut strip: &[u8], lent: u32, view: &mut View) -> Answer
-    ensures answer { let v = view.old in result ≡ (rounds strip.now v.height lent 0 v.attached v.window 0).answer }
-    ensures view { let v = view.old in let e = rounds strip.now v.height lent 0 v.attached v.window 0 in
+fn rounds_of(strip: &mut &[u8], lent: u32, view: &mut View) -> Answer
+    ensures answer { let v = view.old in result ≡ (rounds strip.old.now v.height lent 0 v.attached v.window 0).answer }
+    ensures view { let v = view.old in let e = rounds strip.old.now v.height lent 0 v.attached v.window 0 in
         view.new ≡ view_with v e.attached e.window v.retired }
+    ensures strip { let v = view.old in
+        strip.new.now ≡ drop (rounds strip.old.now v.height lent 0 v.attached v.window 0).read strip.old.now }
 {
     let mut left = lent;
     while left > 0 {
         left -= 1;
         let made = lent - left;
-        if round_of(&mut strip, view).map_err(|_| Failure::Offset(made))? {
+        if round_of(strip, view).map_err(|_| Failure::Offset(made))? {
             return Ok(made);
         }
     }
     Err(Failure::Budget(lent))
 }
 
-// The cached pass, and then rounds until a yes.
-pub fn detach(mut strip: &[u8], lent: u32, view: &mut View) -> Answer
-    ensures answer { result ≡ (detach_work view.old strip.now lent).answer }
-    ensures view { let e = detach_work view.old strip.now lent in
+// The cached pass, and then rounds until a yes. The pass reads at most a byte to a lane, and each round one more, for its refresh.
+pub fn detach(strip: &mut &[u8], lent: u32, view: &mut View) -> Answer
+    ensures answer { result ≡ (detach_work view.old strip.old.now lent).answer }
+    ensures view { let e = detach_work view.old strip.old.now lent in
         view.new ≡ view_with view.old e.attached e.window view.old.retired }
+    ensures strip { strip.new.now ≡ drop (detach_work view.old strip.old.now lent).read strip.old.now }
+    ensures few { let v = view.old in (detach_work v strip.old.now lent).read ≤ v.height + lent * (v.height + 1) }
 {
-    if cached_pass(&mut strip, view)? {
+    if cached_pass(strip, view)? {
         return Ok(0);
     }
     rounds_of(strip, lent, view)

@@ -31,11 +31,11 @@ fn refreshed_answer(mut strip: &[u8], view: &mut View) -> Answer
 }
 
 // The passes and rounds of a detach, unless a check refuses it. The node is retired exactly where they end with a yes.
-fn detach_answer(strip: &[u8], rounds: u32, view: &mut View) -> Answer
+fn detach_answer(mut strip: &[u8], rounds: u32, view: &mut View) -> Answer
     ensures { record { view = view.new; answer = result } ≡ detach_of view.old strip.now rounds }
 {
     entry_checks(*view, strip)?;
-    let made = detach(strip, rounds, view)?;
+    let made = detach(&mut strip, rounds, view)?;
     view.retired = 1;
     Ok(made)
 }

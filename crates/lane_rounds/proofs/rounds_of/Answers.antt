@@ -13,7 +13,7 @@ returns-in_err-map_err c =
     let k = rounding_error c.loop-left.invariant _ _ c.round_of.result c.loop-left-test.true
     (round.said, round.view, round.strip) (one_error _ (search rules)) in
     let told : c.from_residual.result ≡ Err (Failure.Offset (c.args.lent - (c.loop-left.left - 1))) = search rules in
-    record { answer = told ∙ k.0; view = k.1 }
+    record { answer = told ∙ k.0; view = k.1; strip = k.2 }
 
 pub returns-then-branch : goal.returns-then-branch
 returns-then-branch c =
@@ -21,7 +21,7 @@ returns-then-branch c =
     let said = was_ok c.round_of.result c.map_err.result _ _ c.map_err.ensures.cases c.in_ok-map_err.was in
     let k = rounding_yes c.loop-left.invariant _ _ c.round_of.result c.loop-left-test.true
     (round.said, round.view, round.strip) (rw (← c.if-branch.true) said) in
-    record { answer = k.0; view = k.1 }
+    record { answer = k.0; view = k.1; strip = k.2 }
 
 pub loop-left-preserved : goal.loop-left-preserved
 loop-left-preserved c =
@@ -33,4 +33,4 @@ loop-left-preserved c =
 pub returns : goal.returns
 returns c =
     let k = rounding_end c.loop-left.invariant (omega arith) in
-    record { answer = k.0; view = k.1 }
+    record { answer = k.0; view = k.1; strip = k.2 }
