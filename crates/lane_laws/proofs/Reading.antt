@@ -131,10 +131,10 @@ module _ (strip : List ℕ) (height : ℕ) where
       (λ s. omega arith)
 
   -- so at most 32 for its cached pass, and 33 for each round
-  pub detaching_few :
+  pub detaching_most :
       (lent attached window : ℕ) → height ≤ most_lanes →
       (detaching strip height lent attached window).read ≤ most_lanes + lent * (most_lanes + 1)
-  detaching_few lent attached window k =
+  detaching_most lent attached window k =
       let all = detaching_reads lent attached window in
       let each : height + 1 ≤ most_lanes + 1 = omega arith in
       let more : lent * (height + 1) ≤ lent * (most_lanes + 1) = mul-le-mul_left lent each in
