@@ -4,7 +4,9 @@ use Rattle.std.proofs.Common.{Option, Some, None, Result, Ok, ℕ}
 use Prim.Native.Nat.{ℕ, ◌+◌, ◌<◌, ◌≤◌}
 use mathlib.Core.Path.{◌≡◌, refl, ap}
 use mathlib.Core.List.{List, [], ◌∷◌}
-use mathlib.Core.Bool.{Bool, false, not, ◌||◌}
+use mathlib.Core.Bool.{Bool, false, not, ◌&&◌, ◌||◌, and_assoc}
+use Rattle.std.proofs.Math.Bool.{and_comm}
+use lib.Dec.{eqb}
 use lib.ListN.{length, drop, get_or}
 use Rattle.rules.specs.declared.Posting.{Posting}
 use Rattle.rules.specs.declared.Change.{Change}
@@ -12,7 +14,7 @@ use Rattle.rules.specs.declared.Failure.{Failure}
 use Rattle.rules.specs.Postings.{same, present}
 use Rattle.rules.specs.Orders.{destination_of, source_of, Numbered, named, destinations_from, sources_from, destinations, postings_of, no_change}
 use Rattle.rules.specs.Checks.{must, or_else, first_failing, present_check, overlap_check}
-use Rattle.laws.proofs.Ranks.{same_turned}
+use Rattle.laws.proofs.Ranks.{same_turned, derived_equality}
 use Rattle.changes.proofs.Walk.{destinations_left, sources_left, destinations_none, sources_none}
 use Rattle.clashes.specs.Keys.{under_key, goes_to, destination_in, source_in}
 use Rattle.clashes.specs.Pairs.{first_of}
@@ -62,6 +64,14 @@ module _ (marked : Posting → Bool) (answer : ℕ → Failure) where
     pub no_source : length cs ≤ i → first_of marked answer (sources_from i (drop i cs)) ≡ Ok tt
     unfolding first_failing
     no_source h = rw (sources_none cs i h)
+
+-- two postings are one exactly if their rows are, and their keys and bindings
+pub row_first : (p q : Posting) → same p q ≡ (eqb p.row q.row && (eqb p.key q.key && eqb p.binding q.binding))
+row_first p q =
+    let b = eqb p.binding q.binding in
+    let k = eqb p.key q.key in
+    let r = eqb p.row q.row in
+    rw (← derived_equality p q, and_comm b (k && r), and_comm k r) (and_assoc r k b)
 
 -- the destinations from a change on, among which p is looked for
 module _ (p : Posting) where

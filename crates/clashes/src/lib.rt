@@ -3,7 +3,7 @@
 #![tactic(auto)]
 
 ghost use Rattle.std.specs.Prelude.{◌<◌, ◌≡◌, [], not, length, get_or};
-ghost use Rattle.rules.specs.Postings.{present};
+ghost use Rattle.rules.specs.Postings.{present, same};
 ghost use Rattle.rules.specs.Orders.{changes, destinations, sources, postings_of};
 ghost use Rattle.rules.specs.Checks.{twice_check, present_check, overlap_check};
 ghost use Rattle.clashes.specs.Keys.{goes_to, one_destination, destination_in, source_in};
@@ -13,12 +13,25 @@ use changes::Changes;
 use rules::{Change, Failure, Posting};
 use table::Postings;
 
+// The two are one posting. The row first, since most changes of a list differ in it: where it differs, nothing more is compared.
+// The derived `==` compares row and binding at once, and that costs the walks for 7 and 9 twice the time.
+#[tactic(auto, using(crate::proofs::Named::row_first))]
+fn same_posting(p: Posting, q: Posting) -> bool
+    ensures { result ≡ same p q }
+{
+    if p.row != q.row {
+        return false;
+    }
+    p.key == q.key && p.binding == q.binding
+}
+
 // The destination of the change is this posting.
-#[tactic(auto, using(laws::proofs::Ranks::derived_equality))]
 fn goes_to(change: Change, p: Posting) -> bool
     ensures { result ≡ goes_to change p }
 {
-    change.after.is_some_and(|key| change.posting(key) == p)
+    change
+        .after
+        .is_some_and(|key| same_posting(change.posting(key), p))
 }
 
 // Two changes have one destination.
