@@ -45,6 +45,7 @@ fn not_inserted(storage: &mut Storage, list: Changes, change: usize, fault: Faul
 
 // Prepare: the destinations go in, up the list. At a failed insertion all is undone. It reads one byte for each insertion, and one for
 // each removal of the undo.
+#[tactic(auto, using(crate::proofs::Reading::preparing_few))]
 pub fn prepare(storage: &mut Storage, list: Changes) -> Answer
     ensures stage { StageIn
         (preparing (capacity storage.old.numbers.now) storage.old.strip.now

@@ -42,6 +42,3 @@ module _ (strip : List ℕ) (clear : Result ℕ Failure) where
       let r = removing_reads (sources cs) read ps in
       let f = sources_few 0 cs in
       omega arith
-
-  pub removing_first : (cs : List Change) (ps : List Posting) → (removing strip clear (sources cs) 0 ps).read ≤ length cs
-  removing_first cs ps = let r = removing_few cs 0 ps in omega arith

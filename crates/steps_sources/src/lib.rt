@@ -33,6 +33,7 @@ pub fn write_record(list: Changes, record: &mut [u32])
 
 // Source removal: up the list over the befores, to the first failure. The answer is this one where none failed: `removing` of the rules
 // takes it, since publish goes on from what prepare answered. It reads one byte for each source at most.
+#[tactic(auto, using(crate::proofs::Reading::removing_few))]
 pub fn remove_sources(storage: &mut Storage, list: Changes, clear: Answer) -> Answer
     ensures stage { StageIn
         (removing storage.old.strip.now clear (sources (changes list.entry.numbers.now)) 0 (holding storage.old))

@@ -38,6 +38,7 @@ fn undo_change(
 }
 
 // The destinations of the changes below one are removed, from the last to the first. It reads one byte for each at most.
+#[tactic(auto, using(crate::proofs::Undos::undo_few))]
 pub fn undo_below(storage: &mut Storage, list: Changes, change: usize) -> Result<(), Failure>
     requires { change ≤ length (changes list.numbers.now) }
     ensures undone { UndoneIn
@@ -55,6 +56,7 @@ pub fn undo_below(storage: &mut Storage, list: Changes, change: usize) -> Result
 }
 
 // Rollback: the destinations of a record are removed, from its end to its start. It reads one byte for each at most.
+#[tactic(auto, using(crate::proofs::Undos::rollback_few))]
 pub fn rollback(storage: &mut Storage, list: Changes, record: &[u32]) -> Result<(), Failure>
     requires { every (λ n. ltb n (length (changes list.numbers.now))) «record».now ≡ true }
     ensures undone { UndoneIn

@@ -2,7 +2,7 @@
 // here and not tested again.
 #![tactic(auto)]
 
-ghost use Rattle.std.specs.Prelude.{◌≤◌, ◌<◌, ◌^◌, ◌≡◌, [], true, cond, length, ltb};
+ghost use Rattle.std.specs.Prelude.{◌+◌, ◌*◌, ◌≤◌, ◌<◌, ◌^◌, ◌≡◌, [], true, cond, length, ltb};
 ghost use Rattle.rules.specs.Postings.{every, counted};
 ghost use Rattle.rules.specs.Table.{postings, well_formed};
 ghost use Rattle.rules.specs.Orders.{changes, destinations, sources};
@@ -55,6 +55,7 @@ fn stored<'a, 's>(head: Head, table: &'a mut [u32], strip: &'s [u8]) -> Storage<
 fn bring(storage: &mut Storage, list: Changes, record: &mut [u32]) -> Answer
     requires { length (changes list.numbers.now) ≤ length «record».old }
     ensures stage { StageIn (brought storage.old (changes list.entry.numbers.now)) result storage.old storage.new }
+    ensures few { (brought storage.old (changes list.entry.numbers.now)).read ≤ length (changes list.entry.numbers.now) * 2 + 1 }
     ensures record_list { «record».new ≡ record_after (brought storage.old (changes list.entry.numbers.now))
         (destinations (changes list.entry.numbers.now)) «record».old }
 {
@@ -63,14 +64,17 @@ fn bring(storage: &mut Storage, list: Changes, record: &mut [u32]) -> Answer
     Ok(inserted)
 }
 
-// Sources stay until every destination is in.
-#[tactic(auto, using(steps_sources::proofs::Removals::removing_rest, crate::proofs::Showing::left_after))]
+// Sources stay until every destination is in. Three bytes for each change and one more are read at most.
+#[tactic(auto, using(steps_sources::proofs::Removals::removing_rest, crate::proofs::Showing::left_after, crate::proofs::Showing::publish_few))]
 fn bring_and_clear(storage: &mut Storage, list: Changes, record: &mut [u32]) -> Answer
     requires { length (changes list.numbers.now) ≤ length «record».old }
     ensures stage { StageIn
         (then_sources storage.old.strip.now (sources (changes list.entry.numbers.now))
         (brought storage.old (changes list.entry.numbers.now)))
         result storage.old storage.new }
+    ensures few { (then_sources storage.old.strip.now (sources (changes list.entry.numbers.now))
+        (brought storage.old (changes list.entry.numbers.now))).read
+        ≤ length (changes list.entry.numbers.now) * 3 + 1 }
     ensures record_list { «record».new ≡ record_after (brought storage.old (changes list.entry.numbers.now))
         (destinations (changes list.entry.numbers.now)) «record».old }
 {
