@@ -7,7 +7,7 @@ ghost use Rattle.std.specs.Prelude.{◌≡◌, []};
 ghost use Rattle.rules.specs.Orders.{lending};
 ghost use Rattle.publish.specs.Promises.{PreparePromise, RollbackPromise, RemovalPromise, PublishPromise, CountPromise};
 
-use rules::{Answer, Done, Failure, Head};
+use rules::{Answer, Done, Head};
 
 // Puts the destinations of a change list into the table, all of them or none, and writes their change numbers into the record
 // list. An accepted answer names how many they are.
