@@ -2,7 +2,7 @@
 // next begins. An inner layer, not delivered.
 #![tactic(auto)]
 
-ghost use Rattle.std.specs.Prelude.{◌≡◌, ◌<◌, ◌↔◌, not, ◌&&◌, length, eqb, ltb, true, false, IsOk, IsErr, Option, IsNone, IsSome, IfSome};
+ghost use Rattle.std.specs.Prelude.{◌+◌, ◌*◌, ◌≡◌, ◌<◌, ◌↔◌, not, ◌&&◌, length, eqb, ltb, true, false, IsOk, IsErr, Option, IsNone, IsSome, IfSome};
 ghost use Rattle.rules.specs.Orders.{proper_key, proper_changes, proper_guards, proper_lists, guards, changes, held};
 ghost use Rattle.rules.specs.Checks.{key_held, guarded, guard_check, recordable, record_check};
 ghost use Rattle.std.specs.List.{list_all, list_any};
@@ -62,14 +62,27 @@ pub fn proper_lists(list: &[u32], paired: bool) -> Option<Changes>
     }
 }
 
-// The pair (binding, key) is among these. By its two numbers: with `contains(&[binding, key])` the proof did not close by itself. Both
-// are looked at in each pair, since a processor can't guess which pairs have the binding and not the key.
+// A binding and a key as one number.
+fn joined(binding: u32, key: u32) -> u64
+    ensures { result ≡ binding + key * 4294967296 }
+{
+    u64::from(binding) + u64::from(key) * 4294967296
+}
+
+// A guard is the pair (binding, key). They are compared as one number: of two numbers the second would be asked for only where the
+// first is right, and which guards have the binding and not the key is what a processor guesses badly.
+#[tactic(auto, using(crate::proofs::Guards::pair_as_one))]
+pub fn is_pair(pair: [u32; 2], binding: u32, key: u32) -> bool
+    ensures { result ≡ is_pair binding key pair }
+{
+    joined(binding, key) == joined(pair[0], pair[1])
+}
+
+// The pair (binding, key) is among these.
 fn is_among(pairs: &[[u32; 2]], binding: u32, key: u32) -> bool
     ensures { result ≡ list_any (is_pair binding key) pairs.now }
 {
-    pairs
-        .iter()
-        .any(|pair| (binding == pair[0]) & (key == pair[1]))
+    pairs.iter().any(|pair| is_pair(*pair, binding, key))
 }
 
 // The pair (binding, key) is among the guards, which lie two numbers to each.

@@ -3,7 +3,8 @@
 // Any numbers may come in. Whatever decides anything is in `guarding`, in small functions over plain values.
 #![tactic(auto)]
 
-ghost use Rattle.std.specs.Prelude.{◌≡◌};
+ghost use Rattle.std.specs.Prelude.{◌≡◌, ◌&&◌, eqb};
+ghost use Rattle.std.specs.List.{list_any};
 ghost use Rattle.guarding.specs.Asking.{wanted_held, unheld_place};
 ghost use Rattle.entry.specs.Promises.{PoisonPromise, HeldPromise, EntryPromise};
 
@@ -16,11 +17,20 @@ pub fn poison_indexes(head: &mut Head)
     head.poisoned = 1;
 }
 
+// The pair (binding, key) is one of these.
+fn is_among(guards: &[Guard], binding: u32, key: u32) -> bool
+    ensures { result ≡ list_any (λ g. eqb binding g.binding && eqb key g.key) guards.now }
+{
+    guards
+        .iter()
+        .any(|guard| guarding::is_guard(*guard, binding, key))
+}
+
 // The pair (binding, key) is among the guards.
 pub fn held(guards: &[Guard], binding: u32, key: u32) -> bool
     ensures { HeldPromise guards.now binding key result }
 {
-    guards.contains(&Guard { binding, key })
+    is_among(guards, binding, key)
 }
 
 // A guard that is asked for is held; none need not be.

@@ -13,7 +13,6 @@ use lib.ListN.{length, drop, get_or, drop_of_length-le}
 use lib.Seq.{drop-cons}
 use borrow.Author.Tests.{eq-eqb, ne_eqb}
 use Rattle.std.specs.List.{list_any}
-use Rattle.lent_lists.proofs.Among.{eqb_turned}
 use Rattle.rules.specs.declared.Change.{Change}
 use Rattle.rules.specs.declared.Guard.{Guard}
 use Rattle.rules.specs.declared.Head.{Head}
@@ -41,12 +40,12 @@ pub pairs_known : (gs : List Guard) → leb (length gs) most_guards ≡ proper_g
 unfolding proper_guards
 pairs_known gs = rw (eq-eqb (length (flat gs) % 2) 0 (flat_even gs), flat_guards gs)
 
--- the pair is looked for as the library looks for it
+-- a pair is among the guards where it is any of them
 pub held_by_any :
-    (binding key : ℕ) (gs : List Guard) → list_any (λ (g : Guard). eqb g.binding binding && eqb g.key key) gs ≡ held binding key gs
+    (binding key : ℕ) (gs : List Guard) → list_any (λ (g : Guard). eqb binding g.binding && eqb key g.key) gs ≡ held binding key gs
 unfolding held
 held_by_any binding key [] = refl
-held_by_any binding key (g ∷ gs) = rw (eqb_turned g.binding binding, eqb_turned g.key key, held_by_any binding key gs)
+held_by_any binding key (g ∷ gs) = rw (held_by_any binding key gs)
 
 -- the key that is not held is looked for from a place on, n places in all
 module _ (gs : List Guard) (cs : List Change) (place n : ℕ) where

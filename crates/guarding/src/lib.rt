@@ -2,7 +2,7 @@
 // delivered.
 #![tactic(auto)]
 
-ghost use Rattle.std.specs.Prelude.{◌*◌, ◌<◌, ◌≡◌, length, MatchOption};
+ghost use Rattle.std.specs.Prelude.{◌*◌, ◌<◌, ◌≡◌, ◌&&◌, length, eqb, MatchOption};
 ghost use Rattle.rules.specs.Orders.{changes};
 ghost use Rattle.guarding.specs.Asking.{wanted_of, wanted_at, keys_asked};
 ghost use Rattle.rules.specs.Calls.{outcome_of};
@@ -19,6 +19,13 @@ pub struct Published {
     pub answer: Answer,
     pub head: Head,
     pub poisons: bool,
+}
+
+// The guard is the pair (binding, key).
+pub fn is_guard(guard: Guard, binding: u32, key: u32) -> bool
+    ensures { result ≡ (eqb binding guard.binding && eqb key guard.key) }
+{
+    checks::is_pair([guard.binding, guard.key], binding, key)
 }
 
 // The changes whose keys are asked for: none where the poison flag is set, which 1 or 2 refuses, or beside lists that are over their

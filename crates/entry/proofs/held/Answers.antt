@@ -4,4 +4,4 @@ use Rattle.guarding.proofs.Asking.{held_by_any}
 use Rattle.entry.proofs.held.Goals as goal
 
 pub returns : goal.returns
-returns c = c.contains.ensures.value ∙ held_by_any _ _ _
+returns c = c.is_among.ensures ∙ held_by_any _ _ _
