@@ -35,6 +35,7 @@ pair_as_one a b c d p q = equal_tests (eqb (a + b * 4294967296) (c + d * 4294967
     parts h =
         let e = eqb-true (a + b * 4294967296) (c + d * 4294967296) h in
         rw (eq-eqb a c (omega arith), eq-eqb b d (omega arith)) refl
+
     whole : (eqb a c && eqb b d) ≡ true → eqb (a + b * 4294967296) (c + d * 4294967296) ≡ true
     whole h =
         let e = eqb-true a c (and_elim_left (eqb a c) (eqb b d) h) in
