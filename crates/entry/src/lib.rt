@@ -3,9 +3,9 @@
 // Any numbers may come in. Whatever decides anything is in `guarding`, in small functions over plain values.
 #![tactic(auto)]
 
-ghost use Rattle.std.specs.Prelude.{◌≡◌, ◌&&◌, eqb};
+ghost use Rattle.std.specs.Prelude.{◌≡◌};
 ghost use Rattle.std.specs.List.{list_any};
-ghost use Rattle.guarding.specs.Asking.{wanted_held, unheld_place};
+ghost use Rattle.guarding.specs.Asking.{is_guard, wanted_held, unheld_place};
 ghost use Rattle.entry.specs.Promises.{PoisonPromise, HeldPromise, EntryPromise};
 
 use rules::{Answer, Guard, Head};
@@ -17,9 +17,9 @@ pub fn poison_indexes(head: &mut Head)
     head.poisoned = 1;
 }
 
-// The pair (binding, key) is one of these.
+// Some guard is the pair (binding, key).
 fn is_among(guards: &[Guard], binding: u32, key: u32) -> bool
-    ensures { result ≡ list_any (λ g. eqb binding g.binding && eqb key g.key) guards.now }
+    ensures { result ≡ list_any (is_guard binding key) guards.now }
 {
     guards
         .iter()

@@ -8,7 +8,7 @@ use mathlib.Core.Path.{◌≡◌, refl, sym, ap, ◌∙◌}
 use mathlib.Core.List.{List, [], ◌∷◌}
 use mathlib.Core.Bool.{Bool, true, false, cond, ◌&&◌}
 use mathlib.Mathlib.Data.Bool.Basic.{and_elim_left, and_elim_right, and_intro}
-use lib.Dec.{eqb, leb}
+use lib.Dec.{leb}
 use lib.ListN.{length, drop, get_or, drop_of_length-le}
 use lib.Seq.{drop-cons}
 use borrow.Author.Tests.{eq-eqb, ne_eqb}
@@ -23,7 +23,7 @@ use Rattle.checks.specs.Guarding.{first_unheld, bindings_from}
 use Rattle.checks.proofs.Guarding.{unheld_known}
 use Rattle.laws.proofs.Checks.{opened, order_passed}
 use Rattle.publish_core.proofs.Publishing.{order_proper}
-use Rattle.guarding.specs.Asking.{flat, wanted_of, wanted_at, wanted_held, unheld_from, unheld_place}
+use Rattle.guarding.specs.Asking.{flat, is_guard, wanted_of, wanted_at, wanted_held, unheld_from, unheld_place}
 
 -- the flat numbers mean the guards
 pub flat_guards : (gs : List Guard) → guards (flat gs) ≡ gs
@@ -41,8 +41,7 @@ unfolding proper_guards
 pairs_known gs = rw (eq-eqb (length (flat gs) % 2) 0 (flat_even gs), flat_guards gs)
 
 -- a pair is among the guards where it is any of them
-pub held_by_any :
-    (binding key : ℕ) (gs : List Guard) → list_any (λ (g : Guard). eqb binding g.binding && eqb key g.key) gs ≡ held binding key gs
+pub held_by_any : (binding key : ℕ) (gs : List Guard) → list_any (is_guard binding key) gs ≡ held binding key gs
 unfolding held
 held_by_any binding key [] = refl
 held_by_any binding key (g ∷ gs) = rw (held_by_any binding key gs)

@@ -10,6 +10,10 @@ unfoldable pub flat : List Guard → List ℕ
 flat [] = []
 flat (g ∷ gs) = g.binding ∷ g.key ∷ flat gs
 
+-- a guard is the pair (binding, key)
+abbrev pub is_guard : ℕ → ℕ → Guard → Bool
+is_guard binding key g = eqb binding g.binding && eqb key g.key
+
 -- the guard that a change's key asks for, if it has one
 abbrev pub wanted_of : ℕ → Option ℕ → Option Guard
 wanted_of binding None = None

@@ -2,9 +2,9 @@
 // delivered.
 #![tactic(auto)]
 
-ghost use Rattle.std.specs.Prelude.{◌*◌, ◌<◌, ◌≡◌, ◌&&◌, length, eqb, MatchOption};
+ghost use Rattle.std.specs.Prelude.{◌*◌, ◌<◌, ◌≡◌, length, MatchOption};
 ghost use Rattle.rules.specs.Orders.{changes};
-ghost use Rattle.guarding.specs.Asking.{wanted_of, wanted_at, keys_asked};
+ghost use Rattle.guarding.specs.Asking.{is_guard, wanted_of, wanted_at, keys_asked};
 ghost use Rattle.rules.specs.Calls.{outcome_of};
 ghost use Rattle.guarding.specs.InPlace.{value_of, ByValuePromise};
 
@@ -23,7 +23,7 @@ pub struct Published {
 
 // The guard is the pair (binding, key).
 pub fn is_guard(guard: Guard, binding: u32, key: u32) -> bool
-    ensures { result ≡ (eqb binding guard.binding && eqb key guard.key) }
+    ensures { result ≡ is_guard binding key guard }
 {
     checks::is_pair([guard.binding, guard.key], binding, key)
 }
