@@ -4,7 +4,7 @@
 #![tactic(auto)]
 
 use bucket_rules::Answer;
-use case_text::cases::Cases;
+use case_text::cases::FixedCases;
 use case_text::lists::{List, ListError};
 use case_text::writing::Listed;
 use case_text::{cases, lists};
@@ -100,7 +100,7 @@ impl Lists {
     }
 }
 
-impl Cases for Lists {
+impl FixedCases for Lists {
     type Call = Call;
 
     fn call(name: &[u8]) -> Option<Call> {
@@ -134,5 +134,5 @@ impl Cases for Lists {
 }
 
 fn main(rt: HostRuntime) {
-    cases::run(&mut rt.stdin(), &mut rt.stdout(), &mut Lists::new());
+    cases::run_fixed(&mut rt.stdin(), &mut rt.stdout(), &mut Lists::new());
 }

@@ -3,7 +3,8 @@ ghost use Rattle.std.specs.Prelude.{◌≤◌, length};
 
 use crate::items;
 use crate::lists::ListError;
-use std::io::{self, Read, Write};
+use std::alloc::Global;
+use std::io::{self, BufWriter, Read, Write};
 
 /// How many bytes of its input a program reads.
 const LIMIT: usize = 65536;
@@ -16,10 +17,47 @@ pub trait Cases {
     fn call(name: &[u8]) -> Option<Self::Call>;
 
     /// Sets the list of a name to the numbers that the items of a line say.
+    fn set(&mut self, alloc: Global, name: &[u8], items: &[u8]) -> Result<(), ListError>;
+
+    /// Runs a call on copies of the lists, so that the next one finds them as they were set, and writes what comes of it.
+    fn run<W: Write>(&self, call: Self::Call, out: &mut W) -> io::Result<()>;
+}
+
+/// The same where the lists lie in fixed memory.
+pub trait FixedCases {
+    type Call: Copy;
+
+    /// The call of a name.
+    fn call(name: &[u8]) -> Option<Self::Call>;
+
+    /// Sets the list of a name to the numbers that the items of a line say.
     fn set(&mut self, name: &[u8], items: &[u8]) -> Result<(), ListError>;
 
     /// Runs a call on copies of the lists, so that the next one finds them as they were set, and writes what comes of it.
     fn run<W: Write>(&self, call: Self::Call, out: &mut W) -> io::Result<()>;
+}
+
+/// Cases with the memory that their lists ask for.
+#[derive(Drop)]
+struct Supplied<'a, C> {
+    alloc: Global,
+    cases: &'a mut C,
+}
+
+impl<C: Cases> FixedCases for Supplied<'_, C> {
+    type Call = C::Call;
+
+    fn call(name: &[u8]) -> Option<C::Call> {
+        C::call(name)
+    }
+
+    fn set(&mut self, name: &[u8], items: &[u8]) -> Result<(), ListError> {
+        self.cases.set(self.alloc, name, items)
+    }
+
+    fn run<W: Write>(&self, call: C::Call, out: &mut W) -> io::Result<()> {
+        self.cases.run(call, out)
+    }
 }
 
 /// A writer that lets go what another does not take, and goes on with what follows: whoever runs these programs compares
@@ -41,7 +79,7 @@ impl<W: Write> Write for Lenient<'_, W> {
 }
 
 /// Runs the case of a line, and writes the line and what comes of it.
-fn run_case<C: Cases, W: Write>(
+fn run_case<C: FixedCases, W: Write>(
     cases: &C,
     call: C::Call,
     line: &[u8],
@@ -60,7 +98,7 @@ fn write_malformed<W: Write>(line: &[u8], out: &mut W) -> io::Result<()> {
 }
 
 /// Does what one line says: nothing if it is empty or a comment.
-fn run_line<C: Cases, W: Write>(cases: &mut C, line: &[u8], out: &mut W) -> io::Result<()> {
+fn run_line<C: FixedCases, W: Write>(cases: &mut C, line: &[u8], out: &mut W) -> io::Result<()> {
     if line.is_empty() || line.starts_with(b"#") {
         return Ok(());
     }
@@ -70,6 +108,7 @@ fn run_line<C: Cases, W: Write>(cases: &mut C, line: &[u8], out: &mut W) -> io::
     }
     match cases.set(name, items) {
         Ok(()) => Ok(()),
+        Err(ListError::Memory(error)) => Err(error.into()),
         Err(ListError::Malformed) => write_malformed(line, out),
     }
 }
@@ -88,8 +127,21 @@ fn read_text<R: Read>(input: &mut R, text: &mut [u8]) -> usize
     size
 }
 
-/// Does what each line of the input says, and writes what comes of the cases.
-pub fn run<R: Read, W: Write, C: Cases>(input: &mut R, out: &mut W, cases: &mut C) {
+/// Does what each line of the input says, and writes what comes of the cases. The first read, write or allocation that fails ends it.
+pub fn run<R: Input + Print + AllocGlobal, C: Cases>(rt: &R, cases: &mut C) -> io::Result<()> {
+    let alloc = rt.alloc();
+    let mut text = Vec::new(alloc);
+    rt.reader().take(LIMIT as u64).read_to_end(&mut text)?;
+    let mut out = BufWriter::new(alloc, io::writer(rt))?;
+    let mut cases = Supplied { alloc, cases };
+    for line in text.split(|b| *b == b'\n') {
+        run_line(&mut cases, line, &mut out)?;
+    }
+    out.flush()
+}
+
+/// The same in fixed memory, to the end: a read that fails is taken as the input's end, and what is not taken is let go.
+pub fn run_fixed<R: Read, W: Write, C: FixedCases>(input: &mut R, out: &mut W, cases: &mut C) {
     let mut text = [0; LIMIT];
     let size = read_text(input, &mut text);
     let mut out = Lenient { out };
@@ -101,14 +153,17 @@ pub fn run<R: Read, W: Write, C: Cases>(input: &mut R, out: &mut W, cases: &mut 
 #[cfg(test)]
 mod tests {
     use super::*;
-    use std::io::ErrorKind;
+    use std::alloc::{AllocError, Allocator};
+    use std::cell::RefCell;
+    use std::fmt::Display;
+    use std::io::{BufRead, ErrorKind, Lines};
     use std::test::Fail;
 
     /// A program with no list and one call, which writes a word.
     #[derive(Drop)]
     struct Saying;
 
-    impl Cases for Saying {
+    impl FixedCases for Saying {
         type Call = u8;
 
         fn call(name: &[u8]) -> Option<u8> {
@@ -137,6 +192,96 @@ mod tests {
         }
     }
 
+    /// A program with one list, which lies on a heap, and one call, which writes how long it is. A line `none` finds no memory.
+    #[derive(Drop)]
+    struct Growing {
+        bytes: Vec<u8>,
+    }
+
+    impl Cases for Growing {
+        type Call = u8;
+
+        fn call(name: &[u8]) -> Option<u8> {
+            Saying::call(name)
+        }
+
+        fn set(&mut self, alloc: Global, name: &[u8], items: &[u8]) -> Result<(), ListError> {
+            self.bytes = Vec::new(alloc);
+            match name {
+                b"list" => self.bytes.extend_from_slice(items)?,
+                b"one" => self.bytes.push(1)?,
+                b"none" => return Err(ListError::from(AllocError)),
+                _ => return Err(ListError::Malformed),
+            }
+            Ok(())
+        }
+
+        fn run<W: Write>(&self, _call: u8, out: &mut W) -> io::Result<()> {
+            write!(out, ": {}", self.bytes.len())
+        }
+    }
+
+    /// A runtime with an input of its own, which keeps what is written.
+    #[derive(Drop)]
+    struct Kept {
+        alloc: Global,
+        input: &'static [u8],
+        out: RefCell<Vec<u8>>,
+    }
+
+    impl Kept {
+        fn new(alloc: Global, input: &'static [u8]) -> Kept {
+            Kept {
+                alloc,
+                input,
+                out: RefCell::new(Vec::new(alloc)),
+            }
+        }
+    }
+
+    impl Alloc for Kept {
+        type A = Global;
+
+        fn alloc(&self) -> Global {
+            self.alloc
+        }
+    }
+
+    impl Input for Kept {
+        type Reader = &'static [u8];
+
+        fn read_line<A: Allocator + Clone>(&self, _buf: &mut String<A>) -> io::Result<usize> {
+            Ok(0)
+        }
+
+        fn lines<A: Allocator>(&self, alloc: A) -> Lines<&'static [u8], A> {
+            self.input.lines(alloc)
+        }
+
+        fn reader(&self) -> &'static [u8] {
+            self.input
+        }
+    }
+
+    impl Print for Kept {
+        fn print<D: Display + Drop>(&self, _value: D) -> io::Result<()> {
+            Err(io::Error::from(ErrorKind::Unsupported))
+        }
+
+        fn println<D: Display + Drop>(&self, _value: D) -> io::Result<()> {
+            Err(io::Error::from(ErrorKind::Unsupported))
+        }
+
+        fn write_all(&self, bytes: &[u8]) -> io::Result<()> {
+            let mut out = self
+                .out
+                .try_borrow_mut()
+                .map_err(|_| io::Error::from(ErrorKind::Other))?;
+            out.extend_from_slice(bytes)?;
+            Ok(())
+        }
+    }
+
     /// An output that takes no piece with a colon at its head.
     #[derive(Drop)]
     struct Refusing {
@@ -162,10 +307,39 @@ mod tests {
         let mut out = Refusing {
             taken: Vec::new(rt.alloc()),
         };
-        run(&mut Broken(b"s 1\nx\ns 2"), &mut out, &mut Saying);
+        run_fixed(&mut Broken(b"s 1\nx\ns 2"), &mut out, &mut Saying);
         assert_eq!(rt;
             out.taken.as_slice(),
             b"s 1\nmalformed: x\ns 2\n".as_slice()
+        );
+        Ok(())
+    }
+
+    #[test]
+    fn runs_lists_on_a_heap(rt: HostRuntime) -> Result<(), Fail> {
+        let kept = Kept::new(
+            rt.alloc(),
+            b"list  abc\ns 1\nx\n# a comment\n\none\ns 2".as_slice(),
+        );
+        let mut cases = Growing {
+            bytes: Vec::new(rt.alloc()),
+        };
+        assert!(rt; run(&kept, &mut cases).is_ok());
+        assert_eq!(rt;
+            kept.out.into_inner().as_slice(),
+            b"s 1: 5\nmalformed: x\ns 2: 1\n".as_slice()
+        );
+        Ok(())
+    }
+
+    #[test]
+    fn ends_where_memory_does(rt: HostRuntime) -> Result<(), Fail> {
+        let kept = Kept::new(rt.alloc(), b"s 1\nnone\ns 2".as_slice());
+        let mut cases = Growing {
+            bytes: Vec::new(rt.alloc()),
+        };
+        assert!(rt;
+            matches!(run(&kept, &mut cases), Err(error) if error.kind() == ErrorKind::OutOfMemory)
         );
         Ok(())
     }

@@ -1,14 +1,120 @@
 // The lists that the lines of a text set.
-ghost use Rattle.std.specs.Prelude.{◌≡◌, ◌≤◌, [], length, take, replicate, OnErr};
+ghost use Rattle.case_text.specs.declared.lists.ListError.TheVariants.{Malformed, Memory};
+ghost use Rattle.std.specs.Prelude.{◌≡◌, ◌≤◌, [], alloc_error, length, take, replicate, IfErr, OnErr};
 
 use crate::items::{self, Item};
 use crate::numbers::Number;
+use std::alloc::{AllocError, AllocFailed};
 
 /// Why a line sets no list.
 #[derive(Debug, Drop)]
 pub enum ListError {
     /// The line says no list that the program takes.
     Malformed,
+    /// There is no memory for its numbers. The lists of this crate ask for none, but a program's own may.
+    Memory(AllocError),
+}
+
+impl From<AllocError> for ListError {
+    ghost from_gives = { λ error made. made ≡ Memory error };
+
+    fn from(error: AllocError) -> ListError {
+        ListError::Memory(error)
+    }
+}
+
+impl<T: Drop> From<AllocFailed<T>> for ListError {
+    ghost from_gives = { λ _ made. made ≡ Memory alloc_error };
+
+    fn from(error: AllocFailed<T>) -> ListError {
+        ListError::Memory(AllocError::from(error))
+    }
+}
+
+/// Places that are filled from the front with the numbers that a line says.
+#[derive(Drop)]
+struct Filling<'a, T, const MOST: usize> {
+    places: &'a mut [T],
+    size: usize,
+    ghost has_places: { length places.now ≡ MOST },
+    ghost has_room: { size ≤ MOST },
+}
+
+impl<T: Number, const MOST: usize> Filling<'_, T, MOST> {
+    /// Adds the numbers that the items of a text say, unless the text is malformed.
+    fn add_items(&mut self, text: &[u8]) -> Option<()> {
+        let mut rest = text;
+        while let Some((first, others)) = rest.split_first() {
+            if *first == b' ' {
+                rest = others;
+                continue;
+            }
+            let (item, behind) = items::first_item(rest)?;
+            self.add_item(item)?;
+            rest = behind;
+        }
+        Some(())
+    }
+
+    /// Adds the numbers of an item's group as often as is said. A group that is one number is read once for all turns.
+    fn add_item(&mut self, item: Item<'_>) -> Option<()> {
+        if let Some(number) = items::only_number(item.group) {
+            return self.add_times(item.times, number);
+        }
+        for turn in 0..item.times {
+            self.add_turn(item.group, turn)?;
+        }
+        Some(())
+    }
+
+    /// Adds the numbers of a group as they are in one turn.
+    fn add_turn(&mut self, group: &[u8], turn: u32) -> Option<()> {
+        let mut rest = group;
+        while let Some((first, others)) = rest.split_first() {
+            if *first == b' ' {
+                rest = others;
+                continue;
+            }
+            let (number, behind) = items::first_number(rest, turn)?;
+            self.add(number)?;
+            rest = behind;
+        }
+        Some(())
+    }
+
+    /// Adds a number as often as is said. Most are said once, and need no loop that is made ready for many.
+    fn add_times(&mut self, times: u32, number: u32) -> Option<()> {
+        if times == 1 {
+            return self.add(number);
+        }
+        for _ in 0..times {
+            self.add(number)?;
+        }
+        Some(())
+    }
+
+    /// Adds a number, unless its type does not have it or no place is left.
+    fn add(&mut self, number: u32) -> Option<()> {
+        let size = self.size;
+        if size >= MOST {
+            return None;
+        }
+        self.places[size] = T::from_u32(number)?;
+        self.size = size + 1;
+        Some(())
+    }
+}
+
+/// Fills places from the front with the numbers that the items of a line say, and answers whether all is well, and how many it
+/// filled.
+fn fill<T: Number, const MOST: usize>(places: &mut [T], items: &[u8]) -> (Option<()>, usize)
+    requires { length places.old ≡ MOST }
+    ensures places { length places.new ≡ MOST }
+    ensures room { result.1 ≤ MOST }
+{
+    let mut filling: Filling<T, MOST> = Filling { places, size: 0 };
+    let filled = filling.add_items(items);
+    (filled, filling.size)
 }
 
 /// A list that stands until a line sets it anew: before the first line, and after a malformed one, it is empty. Its numbers
@@ -26,8 +132,9 @@ impl<T: Number, const MOST: usize> List<T, MOST> {
     pub fn new() -> Self
         ensures { take result.size result.numbers ≡ [] }
     {
+        let zero = T::from_u32(0).unwrap();
         List {
-            numbers: [T::default(); MOST],
+            numbers: [zero; MOST],
             size: 0,
         }
     }
@@ -51,96 +158,29 @@ impl<T: Number, const MOST: usize> List<T, MOST> {
 
     /// Sets the list to the numbers that the items of a line say.
     pub fn set(&mut self, items: &[u8]) -> Result<(), ListError>
-        ensures { OnErr result (take self.new.size self.new.numbers ≡ []) }
+        ensures empty { OnErr result (take self.new.size self.new.numbers ≡ []) }
+        ensures malformed { IfErr result (λ error. error ≡ Malformed) }
     {
-        self.size = 0;
-        let added = self.add_items(items);
-        if added.is_err() {
+        let (filled, size) = fill::<T, MOST>(&mut self.numbers, items);
+        self.size = size;
+        if filled.is_none() {
             self.size = 0;
         }
-        added
-    }
-
-    /// Adds the numbers that the items of a text say.
-    fn add_items(&mut self, text: &[u8]) -> Result<(), ListError> {
-        let mut rest = text;
-        while let Some((first, others)) = rest.split_first() {
-            if *first == b' ' {
-                rest = others;
-                continue;
-            }
-            let (item, behind) = items::first_item(rest).ok_or(ListError::Malformed)?;
-            self.add_item(item)?;
-            rest = behind;
-        }
-        Ok(())
-    }
-
-    /// Adds the numbers of an item's group as often as is said. A group that is one number is read once for all turns.
-    fn add_item(&mut self, item: Item<'_>) -> Result<(), ListError> {
-        if let Some(number) = items::only_number(item.group) {
-            return self.add_times(item.times, number);
-        }
-        for turn in 0..item.times {
-            self.add_turn(item.group, turn)?;
-        }
-        Ok(())
-    }
-
-    /// Adds the numbers of a group as they are in one turn.
-    fn add_turn(&mut self, group: &[u8], turn: u32) -> Result<(), ListError> {
-        let mut rest = group;
-        while let Some((first, others)) = rest.split_first() {
-            if *first == b' ' {
-                rest = others;
-                continue;
-            }
-            let (number, behind) = items::first_number(rest, turn).ok_or(ListError::Malformed)?;
-            self.add(number)?;
-            rest = behind;
-        }
-        Ok(())
-    }
-
-    /// Adds a number as often as is said.
-    fn add_times(&mut self, times: u32, number: u32) -> Result<(), ListError> {
-        for _ in 0..times {
-            self.add(number)?;
-        }
-        Ok(())
-    }
-
-    /// Adds a number, unless its type does not have it or the list has no room.
-    fn add(&mut self, number: u32) -> Result<(), ListError> {
-        let size = self.size;
-        if size >= MOST {
-            return Err(ListError::Malformed);
-        }
-        self.numbers[size] = T::from_u32(number).ok_or(ListError::Malformed)?;
-        self.size = size + 1;
-        Ok(())
+        filled.ok_or(ListError::Malformed)
     }
 }
 
-/// More places than any array has. A list of fewer lies in memory, which the proof of `set_array` has to know.
-const PLACES: usize = 1 << 60;
-
 /// Sets an array to the numbers that the items of a line say, which must be as many as it has places, or else to zeros.
 pub fn set_array<const N: usize>(array: &mut [u32; N], items: &[u8]) -> Result<(), ListError>
-    ensures { OnErr result (array.new ≡ replicate N 0) }
+    ensures zeros { OnErr result (array.new ≡ replicate N 0) }
+    ensures malformed { IfErr result (λ error. error ≡ Malformed) }
 {
+    let (filled, size) = fill::<u32, N>(array, items);
+    if filled.is_some() && size == N {
+        return Ok(());
+    }
     array.fill(0);
-    if N >= PLACES {
-        return Err(ListError::Malformed);
-    }
-    let mut list: List<u32, N> = List::new();
-    list.set(items)?;
-    let numbers = list.as_slice();
-    if numbers.len() != N {
-        return Err(ListError::Malformed);
-    }
-    array.copy_from_slice(numbers);
-    Ok(())
+    Err(ListError::Malformed)
 }
 
 #[cfg(test)]
@@ -174,6 +214,14 @@ mod tests {
         assert_eq!(rt; array, [1, 2, 3]);
         assert!(rt; matches!(set_array(&mut array, b" 1 2"), Err(ListError::Malformed)));
         assert_eq!(rt; array, [0, 0, 0]);
+        Ok(())
+    }
+
+    #[test]
+    fn tells_that_memory_fails(rt: HostRuntime) -> Result<(), Fail> {
+        assert!(rt; matches!(ListError::from(AllocError), ListError::Memory(_)));
+        let unpushed = AllocFailed { value: 7u8 };
+        assert!(rt; matches!(ListError::from(unpushed), ListError::Memory(_)));
         Ok(())
     }
 }

@@ -1,8 +1,8 @@
 // The numbers that a list can have: a list of the calls has numbers of 32 bits, a strip has bytes.
 ghost use Rattle.std.specs.Prelude.{◌≡◌, ℕ, ◌≤◌, ◌↔◌, IsSome, IfSome};
 
-/// A type of the numbers of a list. Its default stands in the places that a list does not use.
-pub trait Number: Copy + Default {
+/// A type of the numbers of a list. Every such type has 0, which stands in the places that a list does not use.
+pub trait Number: Copy {
     ghost value: { Self → ℕ };
 
     ghost largest: { ℕ };

@@ -3,7 +3,7 @@
 // and publish the record list too. What the input may say, and how lists are written, stands in crate `case_text`.
 #![tactic(auto)]
 
-use case_text::cases::Cases;
+use case_text::cases::FixedCases;
 use case_text::lists::{List, ListError};
 use case_text::writing::Listed;
 use case_text::{cases, lists};
@@ -125,7 +125,7 @@ fn write_state<W: Write>(
     Ok(())
 }
 
-impl Cases for Lists {
+impl FixedCases for Lists {
     type Call = Call;
 
     fn call(name: &[u8]) -> Option<Call> {
@@ -163,5 +163,5 @@ impl Cases for Lists {
 }
 
 fn main(rt: HostRuntime) {
-    cases::run(&mut rt.stdin(), &mut rt.stdout(), &mut Lists::new());
+    cases::run_fixed(&mut rt.stdin(), &mut rt.stdout(), &mut Lists::new());
 }

@@ -3,7 +3,7 @@
 // may say stands in crate `case_text`.
 #![tactic(auto)]
 
-use case_text::cases::Cases;
+use case_text::cases::FixedCases;
 use case_text::lists::{List, ListError};
 use case_text::{cases, lists};
 use lane_rules::View;
@@ -51,7 +51,7 @@ impl Lists {
     }
 }
 
-impl Cases for Lists {
+impl FixedCases for Lists {
     type Call = Call;
 
     fn call(name: &[u8]) -> Option<Call> {
@@ -98,5 +98,5 @@ impl Cases for Lists {
 }
 
 fn main(rt: HostRuntime) {
-    cases::run(&mut rt.stdin(), &mut rt.stdout(), &mut Lists::new());
+    cases::run_fixed(&mut rt.stdin(), &mut rt.stdout(), &mut Lists::new());
 }
