@@ -23,7 +23,7 @@ pub trait Cases {
     fn run<W: Write>(&self, call: Self::Call, out: &mut W) -> io::Result<()>;
 }
 
-/// The same where the lists lie in fixed memory.
+/// A program that runs cases, as `Cases`, whose lists lie in fixed memory: to set one it is handed no allocator.
 pub trait FixedCases {
     type Call: Copy;
 
@@ -127,7 +127,8 @@ fn read_text<R: Read>(input: &mut R, text: &mut [u8]) -> usize
     size
 }
 
-/// Does what each line of the input says, and writes what comes of the cases. The first read, write or allocation that fails ends it.
+/// Does what each line of the input says, and writes what comes of the cases. The first read, write or allocation that
+/// fails ends it.
 pub fn run<R: Input + Print + AllocGlobal, C: Cases>(rt: &R, cases: &mut C) -> io::Result<()> {
     let alloc = rt.alloc();
     let mut text = Vec::new(alloc);
@@ -140,7 +141,8 @@ pub fn run<R: Input + Print + AllocGlobal, C: Cases>(rt: &R, cases: &mut C) -> i
     out.flush()
 }
 
-/// The same in fixed memory, to the end: a read that fails is taken as the input's end, and what is not taken is let go.
+/// The same in fixed memory, to the end: a read that fails is taken as the input's end, and what is not taken is let go,
+/// and so is a line whose list finds no memory.
 pub fn run_fixed<R: Read, W: Write, C: FixedCases>(input: &mut R, out: &mut W, cases: &mut C) {
     let mut text = [0; LIMIT];
     let size = read_text(input, &mut text);
@@ -192,7 +194,8 @@ mod tests {
         }
     }
 
-    /// A program with one list, which lies on a heap, and one call, which writes how long it is. A line `none` finds no memory.
+    /// A program with one list, which lies on a heap, and one call, which writes how long it is. A line `none` finds no
+    /// memory.
     #[derive(Drop)]
     struct Growing {
         bytes: Vec<u8>,

@@ -82,11 +82,8 @@ impl<T: Number, const MOST: usize> Filling<'_, T, MOST> {
         Some(())
     }
 
-    /// Adds a number as often as is said. Most are said once, and need no loop that is made ready for many.
+    /// Adds a number as often as is said.
     fn add_times(&mut self, times: u32, number: u32) -> Option<()> {
-        if times == 1 {
-            return self.add(number);
-        }
         for _ in 0..times {
             self.add(number)?;
         }
@@ -105,8 +102,9 @@ impl<T: Number, const MOST: usize> Filling<'_, T, MOST> {
     }
 }
 
-/// Fills places from the front with the numbers that the items of a line say, and answers whether all is well, and how many it
-/// filled.
+/// Fills places from the front with the numbers that the items of a line say, and answers whether the line is well formed
+/// and has room, and how many places it filled. Not inlined: as part of `set` lines of groups took up to 1.2 times as long.
+#[inline(never)]
 fn fill<T: Number, const MOST: usize>(places: &mut [T], items: &[u8]) -> (Option<()>, usize)
     requires { length places.old ≡ MOST }
     ensures places { length places.new ≡ MOST }
@@ -214,6 +212,33 @@ mod tests {
         assert_eq!(rt; array, [1, 2, 3]);
         assert!(rt; matches!(set_array(&mut array, b" 1 2"), Err(ListError::Malformed)));
         assert_eq!(rt; array, [0, 0, 0]);
+        Ok(())
+    }
+
+    /// A number below 10, of a type that has no default.
+    #[derive(Clone, Copy, Debug, PartialEq, Eq)]
+    struct Digit(u8);
+
+    impl Number for Digit {
+        ghost value = { λ digit. digit.0 };
+
+        ghost largest = { 9 };
+
+        fn from_u32(number: u32) -> Option<Digit> {
+            if number > 9 {
+                return None;
+            }
+            Some(Digit(number as u8))
+        }
+    }
+
+    #[test]
+    fn takes_numbers_with_no_default(rt: HostRuntime) -> Result<(), Fail> {
+        let mut list: List<Digit, 3> = List::new();
+        assert!(rt; list.set(b" 2*(8+)").is_ok());
+        assert_eq!(rt; list.as_slice(), [Digit(8), Digit(9)].as_slice());
+        assert!(rt; list.set(b" 2*(9+)").is_err());
+        assert!(rt; list.as_slice().is_empty());
         Ok(())
     }
 

@@ -1,7 +1,7 @@
 // The numbers that a list can have: a list of the calls has numbers of 32 bits, a strip has bytes.
 ghost use Rattle.std.specs.Prelude.{◌≡◌, ℕ, ◌≤◌, ◌↔◌, IsSome, IfSome};
 
-/// A type of the numbers of a list. Every such type has 0, which stands in the places that a list does not use.
+/// A type of the numbers of a list. Every such type has 0, with which all places of a list begin.
 pub trait Number: Copy {
     ghost value: { Self → ℕ };
 
