@@ -128,7 +128,7 @@ fn read_text<R: Read>(input: &mut R, text: &mut [u8]) -> usize
 }
 
 /// Does what each line of the input says, and writes what comes of the cases. The first read, write or allocation that
-/// fails ends it.
+/// fails ends it and is the answer.
 pub fn run<R: Input + Print + AllocGlobal, C: Cases>(rt: &R, cases: &mut C) -> io::Result<()> {
     let alloc = rt.alloc();
     let mut text = Vec::new(alloc);
@@ -224,7 +224,7 @@ mod tests {
         }
     }
 
-    /// A runtime with an input of its own, which keeps what is written.
+    /// A runtime with an input of its own, which keeps what is written, and cannot while what it keeps is borrowed.
     #[derive(Drop)]
     struct Kept {
         alloc: Global,
@@ -337,13 +337,26 @@ mod tests {
 
     #[test]
     fn ends_where_memory_does(rt: HostRuntime) -> Result<(), Fail> {
-        let kept = Kept::new(rt.alloc(), b"s 1\nnone\ns 2".as_slice());
+        let kept = Kept::new(rt.alloc(), b"s 1\nnone\nlist abc".as_slice());
         let mut cases = Growing {
             bytes: Vec::new(rt.alloc()),
         };
         assert!(rt;
             matches!(run(&kept, &mut cases), Err(error) if error.kind() == ErrorKind::OutOfMemory)
         );
+        assert!(rt; cases.bytes.is_empty());
+        Ok(())
+    }
+
+    #[test]
+    fn tells_that_nothing_can_be_written(rt: HostRuntime) -> Result<(), Fail> {
+        let kept = Kept::new(rt.alloc(), b"s 1".as_slice());
+        let mut cases = Growing {
+            bytes: Vec::new(rt.alloc()),
+        };
+        let borrowed = kept.out.try_borrow();
+        assert!(rt; run(&kept, &mut cases).is_err());
+        assert!(rt; borrowed.is_ok());
         Ok(())
     }
 }

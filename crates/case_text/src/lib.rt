@@ -10,7 +10,8 @@
 // Lists are written with n*v for n equal neighbours. Of a list of more than 64 numbers its length is written, the sum of
 // its numbers, and the sum of the sums on the way, which depends on every number and its place.
 //
-// Each program says its own lists and its calls, and what it writes of a case.
+// Each program says its own lists and its calls, and what it writes of a case. The programs here go through their lines by
+// `run_fixed`, in fixed memory and to the end; `run` is for lists on a heap, and ends where something fails.
 #![tactic(auto)]
 
 pub mod cases;
